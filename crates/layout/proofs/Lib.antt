@@ -1,0 +1,16 @@
+pub mod Accepted
+pub mod Alike
+pub mod Blocks
+pub mod Bytes
+pub mod Chains
+pub mod Counted
+pub mod Holds
+pub mod Image
+pub mod Limits
+pub mod Passing
+pub mod Placing
+pub mod Reached
+pub mod Records
+pub mod RoundTrip
+pub mod Size
+pub mod Steps

@@ -1,0 +1,4 @@
+pub mod Anywhere
+pub mod Facts
+pub mod Growth
+pub mod Passed
