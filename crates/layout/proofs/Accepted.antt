@@ -41,11 +41,11 @@ hop-passes bs i [] l z r j k = absurd (omega arith)
 hop-passes bs i (h ∷ hs) l z r zero k =
     let leads = leads-passes (hop-count bs) i hs (omega arith) in
     rw add-zero
-      (both-pass _ _
-        (passes _ _ (ap (λ n. not (leads-on (hop-count bs) i n)) (r .0 .next) ∙ leads))
-        (both-pass _ _
-          (passes _ _ (not-from-true _ (eq-eqb _ 0 (r .0 .none))))
-          (passes _ _ (ap (load-nonzero bs) (r .0 .sent) ∙ z 0 (omega arith)))))
+    (both-pass _ _
+    (passes _ _ (ap (λ n. not (leads-on (hop-count bs) i n)) (r .0 .next) ∙ leads))
+    (both-pass _ _
+    (passes _ _ (not-from-true _ (eq-eqb _ 0 (r .0 .none))))
+    (passes _ _ (ap (load-nonzero bs) (r .0 .sent) ∙ z 0 (omega arith)))))
 hop-passes bs i (h ∷ hs) l z r (suc j) k =
     let e : i + 1 + j ≡ i + suc j = omega arith in
     rw (← e) (hop-passes bs (i + 1) hs (omega arith) (λ m n. z (suc m) (omega arith)) (r .1) j (omega arith))
@@ -72,12 +72,12 @@ module _ (x : Content) (fit : Fit x) where
       let taken : not (takes a (kind-at bs)) ≡ false = not-from-true _ (ap (takes a) (kind-is x) ∙ t) in
       let piled : ltb 2 (pile-at bs) ≡ false = le-ltb 2 (pile-at bs) (rw (pile-is x) (pile-few (x .pile))) in
       let some-ports : not (within 1 32 (port-count bs)) ≡ false =
-            within-passes 1 32 (port-count bs) (rw ports (fit .some-ports)) (rw ports (fit .few-ports)) in
+      within-passes 1 32 (port-count bs) (rw ports (fit .some-ports)) (rw ports (fit .few-ports)) in
       let some-cells : not (within 1 256 (cell-count bs)) ≡ false =
-            within-passes 1 256 (cell-count bs) (rw cells (fit .some-cells)) (rw cells (fit .few-cells)) in
+      within-passes 1 256 (cell-count bs) (rw cells (fit .some-cells)) (rw cells (fit .few-cells)) in
       let few-hops : ltb 2048 (hop-count bs) ≡ false = le-ltb 2048 (hop-count bs) (rw hops few) in
       let sized : not (eqb (length bs) (file-length (port-count bs) (cell-count bs) (hop-count bs))) ≡ false =
-            not-from-true _ (eq-eqb (length bs) _ (rw (ports, cells, hops) size)) in
+      not-from-true _ (eq-eqb (length bs) _ (rw (ports, cells, hops) size)) in
       rw (long-enough, taken, piled, some-ports, some-cells, few-hops, sized)
 
   -- the fields
@@ -96,11 +96,11 @@ module _ (x : Content) (fit : Fit x) where
       let some = hops-some x fit c k in
       let a : ltb 7 (flow-at (canonical x) c) ≡ false = rw (r .flow) (le-ltb 7 (cell x c .flow) flow) in
       let b : not (eqb (byte (canonical x) (cell-offset (canonical x) c + 3)) 0) ≡ false =
-            not-from-true _ (eq-eqb _ 0 (r .none)) in
+      not-from-true _ (eq-eqb _ 0 (r .none)) in
       let d : ltb (hop-count (canonical x)) (first-at (canonical x) c) ≡ false =
-            rw (r .first, hops-is x fit) (le-ltb (total-hops (x .cells)) (first-of x c) (omega arith)) in
+      rw (r .first, hops-is x fit) (le-ltb (total-hops (x .cells)) (first-of x c) (omega arith)) in
       let e : load-nonzero (canonical x) (long (canonical x) (cell-offset (canonical x) c + 6)) ≡ false =
-            rw (r .slack) (load-passes (ofZ w32 (cell x c .slack)) (λ e. ap (ofZ w32) (fit .marks c k .2 e))) in
+      rw (r .slack) (load-passes (ofZ w32 (cell x c .slack)) (λ e. ap (ofZ w32) (fit .marks c k .2 e))) in
       rw (a, b, d, e)
 
   -- the hop records of the cells below c
@@ -111,13 +111,13 @@ module _ (x : Content) (fit : Fit x) where
       let few = before-few x fit c (omega arith) in
       let hops = hops-is x fit in
       elim (cases-lt i (before c (x .cells))) [
-        inl h ↦ hops-below c (omega arith) i h
-      | inr h ↦
-          let e : first-of x c + (i - before c (x .cells)) ≡ i + 1 = omega arith in
-          rw (← e)
+        | inl h ↦ hops-below c (omega arith) i h
+        | inr h ↦
+            let e : first-of x c + (i - before c (x .cells)) ≡ i + 1 = omega arith in
+            rw (← e)
             (hop-passes (canonical x) (first-of x c) (cell x c .hops) (omega arith)
-              (λ j m. load-passes _ (λ e. fit .marks c (omega arith) .3 e j m))
-              (route-consecutive x fit c (omega arith)) (i - before c (x .cells)) (omega arith))
+            (λ j m. load-passes _ (λ e. fit .marks c (omega arith) .3 e j m))
+            (route-consecutive x fit c (omega arith)) (i - before c (x .cells)) (omega arith))
       ]
 
   pub hops-pass : (k : ℕ) → k < hop-count (canonical x) → hop-fields (canonical x) (k + 1) ≡ None
@@ -129,8 +129,8 @@ module _ (x : Content) (fit : Fit x) where
   pub fields-pass : field-tests (canonical x) ≡ None
   fields-pass =
       both-pass _ _ (each-below-all (port-fields (canonical x)) (port-count (canonical x)) port-passes)
-        (both-pass _ _ (each-below-all (cell-fields (canonical x)) (cell-count (canonical x)) cell-passes)
-        (each-below-all (λ k. hop-fields (canonical x) (k + 1)) (hop-count (canonical x)) hops-pass))
+      (both-pass _ _ (each-below-all (cell-fields (canonical x)) (cell-count (canonical x)) cell-passes)
+      (each-below-all (λ k. hop-fields (canonical x) (k + 1)) (hop-count (canonical x)) hops-pass))
 
   -- the chains
   pub twice-passes :
@@ -153,8 +153,8 @@ module _ (x : Content) (fit : Fit x) where
       let b = length-counting (first-of x c) n in
       let route = map (λ h. h .port) (cell x c .hops) in
       both-pass _ _
-        (each-below-all (twice-test (canonical x) c) (length (chain-of (canonical x) c)) (λ j m. twice-passes c k j (rw (a, b) at m)))
-        (rw (a, r, ports-is x fit) (route-passes (length (x .delays)) c route (fitting x fit c k .2)))
+      (each-below-all (twice-test (canonical x) c) (length (chain-of (canonical x) c)) (λ j m. twice-passes c k j (rw (a, b) at m)))
+      (rw (a, r, ports-is x fit) (route-passes (length (x .delays)) c route (fitting x fit c k .2)))
 
   pub unreached-passes : (k : ℕ) → k < hop-count (canonical x) → unreached-test (canonical x) (k + 1) ≡ None
   unreached-passes k l =
@@ -167,7 +167,7 @@ module _ (x : Content) (fit : Fit x) where
   pub chains-pass : chain-tests (canonical x) ≡ None
   chains-pass =
       both-pass _ _ (each-below-all (chain-test (canonical x)) (cell-count (canonical x)) chain-passes)
-        (each-below-all (λ k. unreached-test (canonical x) (k + 1)) (hop-count (canonical x)) unreached-passes)
+      (each-below-all (λ k. unreached-test (canonical x) (k + 1)) (hop-count (canonical x)) unreached-passes)
 
   -- all of them
   pub accepted-by : (a : Accepts) → takes a (kind-number (x .kind)) ≡ true → first-refusal a (canonical x) ≡ None

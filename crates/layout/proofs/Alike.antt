@@ -64,8 +64,8 @@ same-content bs x y h k =
     let ports : length (x .delays) ≡ length (y .delays) = h .ports ∙ sym (k .ports) in
     let many : length (x .cells) ≡ length (y .cells) = h .cells ∙ sym (k .cells) in
     let delays : x .delays ≡ y .delays =
-          ext-getD 0 (x .delays) (y .delays) ports (λ p l. h .delays p l ∙ sym (k .delays p (omega arith))) in
+    ext-getD 0 (x .delays) (y .delays) ports (λ p l. h .delays p l ∙ sym (k .delays p (omega arith))) in
     let cells : x .cells ≡ y .cells =
-          ext-getD no-scheduled (x .cells) (y .cells) many
-            (λ c l. same-cell bs c _ _ (h .each c l) (k .each c (omega arith))) in
+    ext-getD no-scheduled (x .cells) (y .cells) many
+    (λ c l. same-cell bs c _ _ (h .each c l) (k .each c (omega arith))) in
     λ i. record { kind = kind i; pile = pile i; delays = delays i; cells = cells i }

@@ -22,10 +22,11 @@ module _ {A : Type 0} where
 
   -- and what follows the front
   pub stands-right : (bs us vs : List A) (n m : ℕ) → n + length us ≡ m → Stands bs n (us ++ vs) → Stands bs m vs
-  stands-right bs us vs n m e s =
-      (s .0,
-       ap (λ k. drop k bs) (sym e) ∙ sym (drop-drop (length us) n bs)
-       ∙ ap (drop (length us)) (s .1 ∙ append-assoc us vs (s .0)) ∙ drop-at us (vs ++ s .0) (length us) refl)
+  stands-right bs us vs n m e s = (
+    s .0,
+    ap (λ k. drop k bs) (sym e) ∙ sym (drop-drop (length us) n bs)
+        ∙ ap (drop (length us)) (s .1 ∙ append-assoc us vs (s .0)) ∙ drop-at us (vs ++ s .0) (length us) refl,
+  )
 
   -- what stands k further on
   pub stands-on :

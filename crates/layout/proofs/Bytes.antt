@@ -30,10 +30,10 @@ four-bytes :
 four-bytes v l =
     let top : v / 16777216 < 256 = omega arith in
     sum v (v / 256) (v / 65536) (v / 16777216) (v % 256) (v / 256 % 256) (v / 65536 % 256) (v / 16777216 % 256)
-      (div-add-mod' v 256)
-      (rw (div-div-eq-div-mul v 256 256) at (div-add-mod' (v / 256) 256))
-      (rw (div-div-eq-div-mul v 65536 256) at (div-add-mod' (v / 65536) 256))
-      (mod-eq-of-lt top)
+    (div-add-mod' v 256)
+    (rw (div-div-eq-div-mul v 256 256) at (div-add-mod' (v / 256) 256))
+    (rw (div-div-eq-div-mul v 65536 256) at (div-add-mod' (v / 65536) 256))
+    (mod-eq-of-lt top)
   where
     sum :
         (v a b c p q r s : ℕ) → a * 256 + p ≡ v → b * 256 + q ≡ a → c * 256 + r ≡ b → s ≡ c
@@ -72,7 +72,7 @@ reads-cell bs n r e f z s =
       flow = stands-getD bs (cell-bytes r) n 2 0 s;
       none = stands-getD bs (cell-bytes r) n 3 0 s;
       first = word-stands bs (n + 4) (r .first) f (stands-on bs (cell-bytes r) (word-bytes (r .first)) _ n 4 s refl);
-      slack = slack-stands bs (n + 6) (r .slack) z (stands-on bs (cell-bytes r) (long-bytes (ofZ w32 (r .slack))) _ n 6 s refl)
+      slack = slack-stands bs (n + 6) (r .slack) z (stands-on bs (cell-bytes r) (long-bytes (ofZ w32 (r .slack))) _ n 6 s refl);
     }
 
 -- the same of a hop record
@@ -89,5 +89,5 @@ reads-hop bs n r e f s =
       next = word-stands bs n (r .next) e (stands-left bs (word-bytes (r .next)) (r .port ∷ 0 ∷ long-bytes (r .sent)) n s);
       port = stands-getD bs (hop-bytes r) n 2 0 s;
       none = stands-getD bs (hop-bytes r) n 3 0 s;
-      sent = long-stands bs (n + 4) (r .sent) f (stands-on bs (hop-bytes r) (long-bytes (r .sent)) _ n 4 s refl)
+      sent = long-stands bs (n + 4) (r .sent) f (stands-on bs (hop-bytes r) (long-bytes (r .sent)) _ n 4 s refl);
     }

@@ -35,11 +35,12 @@ pub consecutive :
 consecutive bs i [] p l m s = tt
 consecutive bs i (h ∷ hs) p l m s =
     let r : Hop-record = record { next = next-of i hs; port = h .port; sent = h .sent } in
-    let rest = joined hop-bytes (route-records (i + 1) hs) in
-    (reads-hop bs (hop-offset bs i) r (next-small i hs (omega arith)) (m 0 (omega arith))
-       (stands-left bs (hop-bytes r) rest (hop-offset bs i) s),
-     consecutive bs (i + 1) hs (omega arith) (omega arith) (λ j k. m (suc j) (omega arith))
-       (stands-right bs (hop-bytes r) rest (hop-offset bs i) (hop-offset bs (i + 1)) (omega arith) s))
+    let rest = joined hop-bytes (route-records (i + 1) hs) in (
+      reads-hop bs (hop-offset bs i) r (next-small i hs (omega arith)) (m 0 (omega arith))
+          (stands-left bs (hop-bytes r) rest (hop-offset bs i) s),
+      consecutive bs (i + 1) hs (omega arith) (omega arith) (λ j k. m (suc j) (omega arith))
+          (stands-right bs (hop-bytes r) rest (hop-offset bs i) (hop-offset bs (i + 1)) (omega arith) s),
+    )
 
 -- they are a chain
 pub chained : (bs : List ℕ) (i : ℕ) (hs : List Hop) → 0 < i → 0 < length hs → Consecutive bs i hs → Chained bs i hs

@@ -34,6 +34,6 @@ pub counted : (a n x : ℕ) → a ≤ x → x < a + n → has (counting a n) x �
 counted a zero x h l = absurd (omega arith)
 counted a (suc n) x h l =
     elim (cases-eq a x) [
-      inl e ↦ or-left (eqb a x) (has (counting (a + 1) n) x) (eq-eqb a x e)
-    | inr e ↦ or-right (eqb a x) (has (counting (a + 1) n) x) (counted (a + 1) n x (omega arith) (omega arith))
+      | inl e ↦ or-left (eqb a x) (has (counting (a + 1) n) x) (eq-eqb a x e)
+      | inr e ↦ or-right (eqb a x) (has (counting (a + 1) n) x) (counted (a + 1) n x (omega arith) (omega arith))
     ]

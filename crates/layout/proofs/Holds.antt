@@ -20,7 +20,7 @@ module _ (x : Content) (fit : Fit x) where
       let a = before-few x fit c l in
       let b = total-few x fit in
       consecutive (canonical x) (first-of x c) (cell x c .hops) (omega arith) (omega arith) (fit .marks c l .1)
-        (route-is x fit c l)
+      (route-is x fit c l)
 
   pub cell-held : (c : ℕ) → c < length (x .cells) → Cell-held (canonical x) c (cell x c)
   cell-held c l =
@@ -30,7 +30,7 @@ module _ (x : Content) (fit : Fit x) where
         entry = sym (r .entry);
         flow = sym (r .flow);
         slack = sym (ap (toZ w32) (r .slack) ∙ toZ-ofZ w32 (cell x c .slack) (fit .marks c l .0));
-        hops = rw (r .first) (chained (canonical x) (first-of x c) (cell x c .hops) (omega arith) some (route-consecutive c l))
+        hops = rw (r .first) (chained (canonical x) (first-of x c) (cell x c .hops) (omega arith) some (route-consecutive c l));
       }
 
   pub holds : Held (canonical x) x
@@ -41,5 +41,5 @@ module _ (x : Content) (fit : Fit x) where
         ports = sym (ports-is x fit);
         cells = sym (cells-is x fit);
         delays = λ p l. sym (delay-is x fit p l);
-        each = cell-held
+        each = cell-held;
       }

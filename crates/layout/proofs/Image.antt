@@ -40,12 +40,12 @@ stands-route bs n i (x ∷ cs) (suc c) l s =
     let rest = joined hop-bytes (hop-records (i + length (x .hops)) cs) in
     let more = n + 8 * length (x .hops) in
     let a : length here ≡ 8 * length (x .hops) =
-          length-joined hop-bytes 8 (λ r. refl) (route-records i (x .hops)) ∙ ap (λ k. 8 * k) (length-route-records i (x .hops)) in
+    length-joined hop-bytes 8 (λ r. refl) (route-records i (x .hops)) ∙ ap (λ k. 8 * k) (length-route-records i (x .hops)) in
     let b : more + 8 * before c cs ≡ n + 8 * (length (x .hops) + before c cs) = omega arith in
     let d : i + length (x .hops) + before c cs ≡ i + (length (x .hops) + before c cs) = omega arith in
     rw (← b, ← d)
-      (stands-route bs more (i + length (x .hops)) cs c (omega arith)
-        (stands-right bs here rest n more (ap (λ k. n + k) a) (rw joined-append at s)))
+    (stands-route bs more (i + length (x .hops)) cs c (omega arith)
+    (stands-right bs here rest n more (ap (λ k. n + k) a) (rw joined-append at s)))
 
 -- the index of the first hop of cell c
 abbrev pub first-of : Content → ℕ → ℕ
@@ -73,8 +73,8 @@ module _ (x : Content) where
   stands-records : Stands (canonical x) (8 + 2 * length (x .delays)) (cell-part ++ hop-part)
   stands-records =
       stands-right (canonical x) delay-part (cell-part ++ hop-part) 8 _
-        (ap (λ k. 8 + k) (length-joined word-bytes 2 (λ v. refl) (x .delays)))
-        stands-rest
+      (ap (λ k. 8 + k) (length-joined word-bytes 2 (λ v. refl) (x .delays)))
+      stands-rest
 
   pub stands-cells : Stands (canonical x) (8 + 2 * length (x .delays)) cell-part
   stands-cells = stands-left (canonical x) cell-part hop-part _ stands-records
@@ -82,9 +82,9 @@ module _ (x : Content) where
   pub stands-hops : Stands (canonical x) (8 + 2 * length (x .delays) + 10 * length (x .cells)) hop-part
   stands-hops =
       stands-right (canonical x) cell-part hop-part _ _
-        (ap (λ k. 8 + 2 * length (x .delays) + k)
-          (length-joined cell-bytes 10 (λ r. refl) (cell-records 1 (x .cells)) ∙ ap (λ k. 10 * k) (length-cell-records 1 (x .cells))))
-        stands-records
+      (ap (λ k. 8 + 2 * length (x .delays) + k)
+      (length-joined cell-bytes 10 (λ r. refl) (cell-records 1 (x .cells)) ∙ ap (λ k. 10 * k) (length-cell-records 1 (x .cells))))
+      stands-records
 
   -- the head
   pub kind-is : kind-at (canonical x) ≡ kind-number (x .kind)
@@ -118,7 +118,7 @@ module _ (x : Content) (fit : Fit x) where
   delay-is p l =
       let a = fit .delays p l in
       word-stands (canonical x) _ (getD (x .delays) p 0) (omega arith)
-        (stands-joined word-bytes 2 (λ v. refl) (canonical x) (x .delays) 8 p 0 l (stands-delays x))
+      (stands-joined word-bytes 2 (λ v. refl) (canonical x) (x .delays) 8 p 0 l (stands-delays x))
 
   -- the fields of cell c
   pub cell-is :
@@ -130,21 +130,21 @@ module _ (x : Content) (fit : Fit x) where
       let b = before-few x fit c l in
       let d = total-few x fit in
       let s =
-            stands-joined cell-bytes 10 (λ r. refl) (canonical x) (cell-records 1 (x .cells)) (8 + 2 * length (x .delays)) c e
-              (simp length-cell-records l) (stands-cells x) in
+      stands-joined cell-bytes 10 (λ r. refl) (canonical x) (cell-records 1 (x .cells)) (8 + 2 * length (x .delays)) c e
+      (simp length-cell-records l) (stands-cells x) in
       rw ports-is
-        (reads-cell (canonical x) _ (cell-record (first-of x c) (cell x c)) (omega arith) (omega arith) (fit .marks c l .0)
-          (rw (getD-cell-records 1 (x .cells) c e l) at s))
+      (reads-cell (canonical x) _ (cell-record (first-of x c) (cell x c)) (omega arith) (omega arith) (fit .marks c l .0)
+      (rw (getD-cell-records 1 (x .cells) c e l) at s))
 
   -- the hop records of cell c
   pub route-is :
       (c : ℕ) → c < length (x .cells)
       → Stands (canonical x) (hop-offset (canonical x) (first-of x c))
-          (joined hop-bytes (route-records (first-of x c) (cell x c .hops)))
+      (joined hop-bytes (route-records (first-of x c) (cell x c .hops)))
   route-is c l =
       let a = ports-is in
       let b = cells-is in
       let n = 8 + 2 * length (x .delays) + 10 * length (x .cells) in
       let e : n + 8 * before c (x .cells) ≡ hop-offset (canonical x) (first-of x c) = omega arith in
       subst (λ m. Stands (canonical x) m (joined hop-bytes (route-records (first-of x c) (cell x c .hops)))) e
-        (stands-route (canonical x) n 1 (x .cells) c l (stands-hops x))
+      (stands-route (canonical x) n 1 (x .cells) c l (stands-hops x))

@@ -47,7 +47,7 @@ module _ (x : Content) (fit : Fit x) where
   pub fitting : (c : ℕ) → c < length (x .cells) → Fitting (length (x .delays)) (plan-part (cell x c))
   fitting c l =
       subst (Fitting (length (x .delays))) (getD-map plan-part (x .cells) c no-scheduled no-cell l)
-        (fit .cells c (simp length-map l))
+      (fit .cells c (simp length-map l))
 
   -- a route has 1 to 8 hops
   pub hops-some : (c : ℕ) → c < length (x .cells) → 0 < length (cell x c .hops)

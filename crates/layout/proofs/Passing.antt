@@ -40,8 +40,8 @@ pub leads-passes : (hops i : ℕ) (hs : List Hop) → i + length hs ≤ hops →
 leads-passes hops i [] l = refl
 leads-passes hops i (h ∷ hs) l =
     not-from-true (leads-on hops i (i + 1))
-      (or-right (eqb (i + 1) 0) (ltb i (i + 1) && leb (i + 1) hops)
-        (and-from (ltb i (i + 1)) (leb (i + 1) hops) (lt-ltb i (i + 1) (omega arith)) (le-leb (i + 1) hops (omega arith))))
+    (or-right (eqb (i + 1) 0) (ltb i (i + 1) && leb (i + 1) hops)
+    (and-from (ltb i (i + 1)) (leb (i + 1) hops) (lt-ltb i (i + 1) (omega arith)) (le-leb (i + 1) hops (omega arith))))
 
 has-not : (r : List ℕ) (x : ℕ) → ((i : ℕ) → i < length r → getD r i 0 ≡ x → ⊥) → has r x ≡ false
 has-not [] x h = refl
@@ -52,18 +52,18 @@ none-unknown : (n : ℕ) (r : List ℕ) → ((i : ℕ) → i < length r → getD
 none-unknown n [] h = refl
 none-unknown n (p ∷ ps) h =
     or-from (leb n p) (names-unknown n ps) (lt-leb n p (h 0 (omega arith)))
-      (none-unknown n ps (λ i l. h (suc i) (omega arith)))
+    (none-unknown n ps (λ i l. h (suc i) (omega arith)))
 
 none-twice : (r : List ℕ) → ((i j : ℕ) → i < j → j < length r → getD r i 0 ≡ getD r j 0 → ⊥) → names-twice r ≡ false
 none-twice [] h = refl
 none-twice (p ∷ ps) h =
     or-from (has ps p) (names-twice ps)
-      (has-not ps p (λ i l e. h 0 (suc i) (omega arith) (omega arith) (sym e)))
-      (none-twice ps (λ i j k l. h (suc i) (suc j) (omega arith) (omega arith)))
+    (has-not ps p (λ i l e. h 0 (suc i) (omega arith) (omega arith) (sym e)))
+    (none-twice ps (λ i j k l. h (suc i) (suc j) (omega arith) (omega arith)))
 
 -- a route
 pub route-passes : (n c : ℕ) (r : List ℕ) → Routed n r → route-test n c r ≡ None
 route-passes n c r h =
     both-pass _ _ (passes _ (BadRouteLength c) (within-passes 1 8 (length r) (h .0) (h .1)))
-      (both-pass _ _ (passes _ (UnknownPort c) (none-unknown n r (h .2)))
-        (passes _ (PortTwice c) (none-twice r (h .3))))
+    (both-pass _ _ (passes _ (UnknownPort c) (none-unknown n r (h .2)))
+    (passes _ (PortTwice c) (none-twice r (h .3))))

@@ -22,7 +22,7 @@ module _ (x : Content) (fit : Fit x) where
       let some = hops-some x fit c l in
       ap (chain-from _ (canonical x)) (cell-is x fit c l .first)
       ∙ chain-is (canonical x) _ (first-of x c) (cell x c .hops) (omega arith) some (omega arith)
-          (route-consecutive x fit c l)
+      (route-consecutive x fit c l)
 
   pub reached-is : (c : ℕ) → c ≤ length (x .cells) → reached (canonical x) c ≡ counting 1 (before c (x .cells))
   reached-is zero l = refl

@@ -1,15 +1,15 @@
 -- The records of cells and hops, one more at a time, and how many there are.
 use mathlib.Core.Bool.{cond}
 use mathlib.Core.Path.{_≡_, refl, ap, _∙_}
-use mathlib.Core.List.{List, [], _∷_, _++_, map}
-use Prim.Native.Nat.{ℕ, zero, suc, _+_, _*_, _<_, _≤_, suc-le-suc}
+use mathlib.Core.List.{List, [], _∷_, _++_}
+use Prim.Native.Nat.{ℕ, zero, suc, _+_, _<_}
 use native.Mathlib.Nat.{add-zero, add-assoc}
 use native.Mathlib.Omega.{arith}
 use lib.Dec.{ltb}
-use lib.ListN.{length, getD, take, drop}
-use Rattle.std.proofs.shelf.Lists.{append-nil, append-assoc, length-append, length-map, getD-map}
+use lib.ListN.{length, getD, drop}
+use Rattle.std.proofs.shelf.Lists.{append-nil, append-assoc}
 use Rattle.std.proofs.shelf.Ways.{tells}
-use Rattle.layout.specs.Contents.{Hop, Scheduled, Content, Fit, no-hop, no-scheduled, plan-part, total-hops}
+use Rattle.layout.specs.Contents.{Hop, Scheduled, no-hop, total-hops}
 use Rattle.layout.specs.declared.fields.CellFields.{CellFields}
 use Rattle.layout.specs.declared.fields.HopFields.{HopFields}
 use Rattle.layout.specs.Sources.{Tells-cell, Tells-hop}

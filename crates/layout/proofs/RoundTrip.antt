@@ -28,5 +28,5 @@ every-content-reads-back x fit =
       accepted = accepted-by x fit AnyKind (any-taken (x .kind));
       load-accepted = λ e. accepted-by x fit LoadsOnly (ap (λ k. takes LoadsOnly (kind-number k)) e);
       holds = holds x fit;
-      itself = λ y h. one-content (canonical x) y x h (holds x fit)
+      itself = λ y h. one-content (canonical x) y x h (holds x fit);
     }

@@ -15,7 +15,8 @@ use Rattle.refusal.proofs.Ordered.{or-else-passes, when-passes}
 use Rattle.plan.specs.Cells.{Routed, Fitting, has, names-unknown, names-twice, within, route-test, cell-test}
 use Rattle.plan.proofs.Anywhere.{false-at}
 
-within-parts : (low high x : ℕ) → not (within low high x) ≡ false → (low ≤ x) × (x ≤ high)
+-- a number within bounds
+pub within-parts : (low high x : ℕ) → not (within low high x) ≡ false → (low ≤ x) × (x ≤ high)
 within-parts low high x h =
     let p = and-parts (leb low x) (leb x high) (not-false (within low high x) h) in
     (leb-true low x (p .0), leb-true x high (p .1))

@@ -49,8 +49,8 @@ module _ (f : ℕ → Option Refusal) where
   each-below-stops i zero e l h k = absurd (omega arith)
   each-below-stops i (suc n) e l h k =
       elim (cases-eq i n) [
-        inl q ↦ ap (λ m. or-else (each-below m f) (f m)) (sym q) ∙ ap (λ o. or-else o (f i)) h ∙ k
-      | inr q ↦ ap (λ o. or-else o (f n)) (each-below-stops i n e (omega arith) h k)
+        | inl q ↦ ap (λ m. or-else (each-below m f) (f m)) (sym q) ∙ ap (λ o. or-else o (f i)) h ∙ k
+        | inr q ↦ ap (λ o. or-else o (f n)) (each-below-stops i n e (omega arith) h k)
       ]
 
   -- a loop of calls that only test: a turn that passes, and one that is refused
@@ -66,8 +66,8 @@ module _ (f : ℕ → Option Refusal) where
   each-below-passes (suc n) i h l =
       let both = or-else-passes (each-below n f) (f n) h in
       elim (cases-eq i n) [
-        inl q ↦ ap f q ∙ both .1
-      | inr q ↦ each-below-passes n i (both .0) (omega arith)
+        | inl q ↦ ap f q ∙ both .1
+        | inr q ↦ each-below-passes n i (both .0) (omega arith)
       ]
 
   pub each-below-all : (n : ℕ) → ((i : ℕ) → i < n → f i ≡ None) → each-below n f ≡ None

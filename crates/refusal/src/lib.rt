@@ -119,7 +119,8 @@ impl Refusal {
             | Refusal::PlanFull(_)
             | Refusal::NoCells => Layer::Plan,
             Refusal::BadIndex(_) | Refusal::BadChain(_) => Layer::Chain,
-            Refusal::RunEnded | Refusal::RunNotEnded | Refusal::UnknownItem | Refusal::HoldsCells => Layer::Run,
+            Refusal::RunEnded | Refusal::RunNotEnded | Refusal::UnknownItem | Refusal::HoldsCells =>
+                Layer::Run,
             Refusal::OutOfRange
             | Refusal::AlreadyWaits
             | Refusal::NoneWaits

@@ -5,11 +5,10 @@ use mathlib.Core.List.{List, [], _∷_, _++_, append-assoc, append-nil}
 use mathlib.Core.Logic.{_⊎_, inl, inr}
 use Prim.Native.Nat.{ℕ, zero, suc, _+_, _-_, _^_, _<_, _≤_}
 use native.Mathlib.Omega.{arith}
-use native.Mathlib.Numerals.{add-one}
 use lib.Dec.{eqb, ltb, leb}
 use lib.ListN.{length, getD, set, take, drop, length-set}
-use Rattle.std.proofs.shelf.Lists.{take-more, drop-more, drop-drop, length-drop, take-all, getD-set-same, getD-set-other, getD-drop}
-use Rattle.std.proofs.shelf.Tests.{cases-eq, eqb-true, eqb-false, ne-eqb, ltb-true, leb-true, or-cases, and-parts, or-right, eq-eqb}
+use Rattle.std.proofs.shelf.Lists.{take-more, drop-more, length-drop, take-all, getD-set-same, getD-set-other}
+use Rattle.std.proofs.shelf.Tests.{cases-eq, eqb-true, ne-eqb, ltb-true, leb-true, or-cases, and-parts, or-right, eq-eqb}
 use Rattle.std.specs.declared.option.Option.the-variants.{Some, None}
 use Rattle.std.specs.declared.result.Result.the-variants.{Ok}
 use Rattle.refusal.specs.Tests.{when, each-below}
@@ -25,8 +24,8 @@ use Rattle.schedule.specs.declared.chain.Found.{Found}
 pub next-cases : (n i x : ℕ) → leads-on n i x ≡ true → (x ≡ 0) ⊎ ((i < x) × (x ≤ n))
 next-cases n i x h =
     elim (or-cases (eqb x 0) _ h) [
-      inl e ↦ inl (eqb-true x 0 e)
-    | inr e ↦ let p = and-parts (ltb i x) (leb x n) e in inr (ltb-true i x (p .0), leb-true x n (p .1))
+      | inl e ↦ inl (eqb-true x 0 e)
+      | inr e ↦ let p = and-parts (ltb i x) (leb x n) e in inr (ltb-true i x (p .0), leb-true x n (p .1))
     ]
 
 -- the chain from a record on
@@ -87,12 +86,12 @@ pub seen-more : (flags : List Bool) (is : List ℕ) (i : ℕ) → i < length fla
 seen-more flags is i l s j m =
     let m′ : j < length flags = simp length-set at m in
     elim (cases-eq j i) [
-      inl e ↦
-        ap (λ x. getD (set flags i true) x false) e ∙ getD-set-same flags i true false l
-        ∙ sym (has-push is i j ∙ or-right (has is j) (eqb i j) (eq-eqb i j (sym e)))
-    | inr e ↦
-        getD-set-other flags i j true false e ∙ s j m′
-        ∙ sym (has-push is i j ∙ ap (λ b. has is j || b) (ne-eqb i j (λ q. e (sym q))) ∙ or-none (has is j))
+      | inl e ↦
+          ap (λ x. getD (set flags i true) x false) e ∙ getD-set-same flags i true false l
+          ∙ sym (has-push is i j ∙ or-right (has is j) (eqb i j) (eq-eqb i j (sym e)))
+      | inr e ↦
+          getD-set-other flags i j true false e ∙ s j m′
+          ∙ sym (has-push is i j ∙ ap (λ b. has is j || b) (ne-eqb i j (λ q. e (sym q))) ∙ or-none (has is j))
     ]
   where
     or-none : (b : Bool) → (b || false) ≡ b
@@ -104,8 +103,8 @@ stored-more : (xs : List ℕ) (F : ℕ → ℕ) (k v : ℕ) → ((j : ℕ) → j
     → (j : ℕ) → j < k + 1 → j < length xs → getD (set xs k v) j 0 ≡ F j
 stored-more xs F k v h e j l m =
     elim (cases-eq j k) [
-      inl q ↦ (let in′ : k < length xs = omega arith in ap (λ x. getD (set xs k v) x 0) q ∙ getD-set-same xs k v 0 in′ ∙ e ∙ ap F (sym q))
-    | inr q ↦ getD-set-other xs k j v 0 q ∙ h j (omega arith) m
+      | inl q ↦ (let in′ : k < length xs = omega arith in ap (λ x. getD (set xs k v) x 0) q ∙ getD-set-same xs k v 0 in′ ∙ e ∙ ap F (sym q))
+      | inr q ↦ getD-set-other xs k j v 0 q ∙ h j (omega arith) m
     ]
 
 -- found with one record more
@@ -118,21 +117,21 @@ noted-more bs chain k i f g at len ports sent fits n =
     record {
       len = let e = n .len in omega arith;
       ports = λ j l m.
-        ap (λ xs. getD xs j 0) (ports ∙ ap (λ x. set (f .ports) x (port-at bs i)) (n .len))
-        ∙ stored-more (f .ports) (λ x. port-at bs (getD chain x 0)) k (port-at bs i)
+          ap (λ xs. getD xs j 0) (ports ∙ ap (λ x. set (f .ports) x (port-at bs i)) (n .len))
+          ∙ stored-more (f .ports) (λ x. port-at bs (getD chain x 0)) k (port-at bs i)
           (λ x a b. n .ports x a (omega arith)) (ap (port-at bs) (sym at)) j l (omega arith);
       sent = λ j l m.
-        ap (λ xs. getD xs j 0) (sent ∙ ap (λ x. set (f .sent) x (sent-at bs i)) (n .len))
-        ∙ stored-more (f .sent) (λ x. sent-at bs (getD chain x 0)) k (sent-at bs i)
+          ap (λ xs. getD xs j 0) (sent ∙ ap (λ x. set (f .sent) x (sent-at bs i)) (n .len))
+          ∙ stored-more (f .sent) (λ x. sent-at bs (getD chain x 0)) k (sent-at bs i)
           (λ x a b. n .sent x a (omega arith)) (ap (sent-at bs) (sym at)) j l (omega arith);
       fits = λ j l.
-        elim (cases-eq j (f .len)) [
-          inl q ↦ (let in′ : f .len < length (f .sent) = omega arith in
-            let e : getD (g .sent) j 0 ≡ sent-at bs i = ap (λ xs. getD xs j 0) sent ∙ ap (λ x. getD (set (f .sent) (f .len) (sent-at bs i)) x 0) q ∙ getD-set-same (f .sent) (f .len) (sent-at bs i) 0 in′ in
-            omega arith)
-        | inr q ↦ (let e : getD (g .sent) j 0 ≡ getD (f .sent) j 0 = ap (λ xs. getD xs j 0) sent ∙ getD-set-other (f .sent) (f .len) j (sent-at bs i) 0 q in
-            let b = n .fits j l in omega arith)
-        ];
+          elim (cases-eq j (f .len)) [
+            | inl q ↦ (let in′ : f .len < length (f .sent) = omega arith in
+                let e : getD (g .sent) j 0 ≡ sent-at bs i = ap (λ xs. getD xs j 0) sent ∙ ap (λ x. getD (set (f .sent) (f .len) (sent-at bs i)) x 0) q ∙ getD-set-same (f .sent) (f .len) (sent-at bs i) 0 in′ in
+                omega arith)
+            | inr q ↦ (let e : getD (g .sent) j 0 ≡ getD (f .sent) j 0 = ap (λ xs. getD xs j 0) sent ∙ getD-set-other (f .sent) (f .len) j (sent-at bs i) 0 q in
+                let b = n .fits j l in omega arith)
+          ];
       ports-long = ap length ports ∙ length-set (f .ports) (f .len) (port-at bs i) ∙ n .ports-long;
       sent-long = ap length sent ∙ length-set (f .sent) (f .len) (sent-at bs i) ∙ n .sent-long;
     }
@@ -167,27 +166,30 @@ walking-more bs c k i flags f i′ flags′ g linked w more l free next-is flags
   where
     noted : Noted bs (chain-of bs c) (k + 1) g
     noted = noted-more bs (chain-of bs c) k i f g (is-next bs c k i flags f w more) len ports sent fits (w .noted)
+
     onward : (next-at bs i ≡ 0) ⊎ ((i < next-at bs i) × (next-at bs i ≤ hop-count bs))
     onward = next-cases (hop-count bs) i (next-at bs i) (linked .next i more (w .index))
+
     here : k < length (chain-of bs c)
     here = not-past bs c k i flags f w more
+
     step : Walking bs c (k + 1) (next-at bs i) (set flags i true) g
     step =
-      let o = onward in
-      let r = w .rises more in
-      record {
-        index = omega arith;
-        rises = λ p. omega arith;
-        within = let p = here in omega arith;
-        rest = after-next bs c k i flags f w more;
-        passed = each-below-more (twice-test bs c) k (w .passed) (flag-tells bs c k i flags f w more l ∙ ap (λ b. when b (BadChain i)) free);
-        flags-long = length-set flags i true ∙ w .flags-long;
-        seen = subst (λ is. Seen (set flags i true) is)
-          (append-assoc (reached bs c) (take k (chain-of bs c)) (i ∷ [])
-            ∙ ap (λ t. reached bs c ++ t) (ap (λ x. take k (chain-of bs c) ++ x ∷ []) (sym (is-next bs c k i flags f w more)) ∙ sym (take-more (chain-of bs c) k 0 here)))
-          (seen-more flags (reached bs c ++ take k (chain-of bs c)) i l (w .seen));
-        noted = noted;
-      }
+        let o = onward in
+        let r = w .rises more in
+        record {
+          index = omega arith;
+          rises = λ p. omega arith;
+          within = let p = here in omega arith;
+          rest = after-next bs c k i flags f w more;
+          passed = each-below-more (twice-test bs c) k (w .passed) (flag-tells bs c k i flags f w more l ∙ ap (λ b. when b (BadChain i)) free);
+          flags-long = length-set flags i true ∙ w .flags-long;
+          seen = subst (λ is. Seen (set flags i true) is)
+              (append-assoc (reached bs c) (take k (chain-of bs c)) (i ∷ [])
+              ∙ ap (λ t. reached bs c ++ t) (ap (λ x. take k (chain-of bs c) ++ x ∷ []) (sym (is-next bs c k i flags f w more)) ∙ sym (take-more (chain-of bs c) k 0 here)))
+              (seen-more flags (reached bs c ++ take k (chain-of bs c)) i l (w .seen));
+          noted = noted;
+        }
 
 -- the end
 pub walking-all : (bs : List ℕ) (c k i : ℕ) (flags : List Bool) (f : Found) → i ≡ 0 → Walking bs c k i flags f → Walked bs c (Ok f) flags
@@ -196,9 +198,9 @@ walking-all bs c k i flags f end w =
     let d = length-drop k (chain-of bs c) in
     let z : length (drop k (chain-of bs c)) ≡ 0 = ap length done in
     let in′ = w .within in
-    let e : k ≡ length (chain-of bs c) = omega arith in
-    ( subst (λ n. each-below n (twice-test bs c) ≡ None) e (w .passed)
-    , subst (λ n. Noted bs (chain-of bs c) n f) e (w .noted)
-    , subst (λ is. Seen flags (reached bs c ++ is)) (take-all k (chain-of bs c) (omega arith)) (w .seen)
-    , w .flags-long
+    let e : k ≡ length (chain-of bs c) = omega arith in (
+      subst (λ n. each-below n (twice-test bs c) ≡ None) e (w .passed),
+      subst (λ n. Noted bs (chain-of bs c) n f) e (w .noted),
+      subst (λ is. Seen flags (reached bs c ++ is)) (take-all k (chain-of bs c) (omega arith)) (w .seen),
+      w .flags-long,
     )

@@ -13,13 +13,13 @@ use base.Stored.{codedℕ, codedℤ}
 use denote.Struct.Props.{four-prop, ≡-prop}
 use lib.ListN.{length, getD}
 use Rattle.plan.specs.Cells.{Planned, no-cell, hops-in, Cells}
-use Rattle.layout.specs.Contents.{Hop, Scheduled, Fit, Marked, no-hop, no-scheduled, plan-part, total-hops, kind-number, pile-number}
+use Rattle.layout.specs.Contents.{Scheduled, Fit, Marked, no-hop, no-scheduled, plan-part, total-hops, kind-number, pile-number}
 use Rattle.layout.specs.Fields.{kind-at, pile-at, cell-count}
 use Rattle.layout.specs.Holding.{Held, Cell-held}
 use Rattle.layout.specs.declared.kind.Kind.{Kind}
 use Rattle.layout.specs.declared.kind.Pile.{Pile}
 use Rattle.schedule.specs.Gathering.{Gathered}
-use Rattle.schedule.specs.Marking.{hops-of, scheduled, timed, no-marks, All-marked}
+use Rattle.schedule.specs.Marking.{hops-of, scheduled, timed, no-marks}
 use Rattle.std.specs.Of.Vec.{vec-items}
 use Rattle.plan.specs.Plans.{delays-of, cells-of}
 use Rattle.plan.proofs.Facts.{few-ports, few-cells, delays-fit, cells-fit}
@@ -87,8 +87,8 @@ held-whole bs k p ds cs ms kind pile g =
       cells = count ∙ g .cells;
       delays = λ i l. g .ports .each i (omega arith);
       each = λ i l.
-        let in′ : i < length cs = omega arith in
-        subst (Cell-held bs i) (sym (getD-timed cs ms i same in′)) (g .held i (omega arith));
+          let in′ : i < length cs = omega arith in
+          subst (Cell-held bs i) (sym (getD-timed cs ms i same in′)) (g .held i (omega arith));
     }
 
 -- that a cell is marked as its kind asks has one proof at most
@@ -112,11 +112,11 @@ module _ (s : Schedule) where
         few-cells = let n = length-timed _ _ as-many in let m = few-cells (s .plan) in omega arith;
         cells = subst (Cells (length (delays-of (s .plan)))) (sym (plan-parts _ _ as-many)) (cells-fit (s .plan));
         marks = λ c l.
-          let n = length-timed _ _ as-many in
-          let in′ : c < length (cells-of (s .plan)) = omega arith in
-          let x = scheduled (getD (cells-of (s .plan)) c no-cell) (getD (vec-items (s .marks)) c no-marks) in
-          let one : Marked (s .kind) x = ∥∥₁-elim (s .«marks_fit») (marked-prop (s .kind) x) (λ all. all c in′) in
-          subst (Marked (s .kind)) (sym (getD-timed _ _ c as-many in′)) one;
+            let n = length-timed _ _ as-many in
+            let in′ : c < length (cells-of (s .plan)) = omega arith in
+            let x = scheduled (getD (cells-of (s .plan)) c no-cell) (getD (vec-items (s .marks)) c no-marks) in
+            let one : Marked (s .kind) x = ∥∥₁-elim (s .«marks_fit») (marked-prop (s .kind) x) (λ all. all c in′) in
+            subst (Marked (s .kind)) (sym (getD-timed _ _ c as-many in′)) one;
       }
 
   -- a cell of the content

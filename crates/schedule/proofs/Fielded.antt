@@ -1,19 +1,19 @@
 -- What follows where all fields have passed.
-use mathlib.Core.Bool.{Bool, true, false, not, _&&_}
-use mathlib.Core.Path.{_≡_, refl, sym, ap, subst, _∙_}
+use mathlib.Core.Bool.{true, false, not}
+use mathlib.Core.Path.{_≡_, sym, subst, _∙_}
 use mathlib.Core.List.{List}
-use mathlib.Core.Logic.{_⊎_, inl, inr}
+use mathlib.Core.Logic.{inl, inr}
 use Prim.Native.Nat.{ℕ, _+_, _-_, _<_, _≤_}
 use native.Mathlib.Omega.{arith}
-use lib.Dec.{eqb, leb, ltb}
-use Rattle.std.proofs.shelf.Tests.{ltb-false, eqb-true, not-false, and-parts, and-cases, leb-true, eq-eqb, false≢true}
+use lib.Dec.{eqb, ltb}
+use Rattle.std.proofs.shelf.Tests.{ltb-false, eqb-true, not-false, and-cases, eq-eqb, false≢true}
 use Rattle.std.specs.declared.option.Option.the-variants.{None}
 use Rattle.std.specs.declared.option.Option.{Option}
 use Rattle.refusal.specs.declared.Refusal.{Refusal}
 use Rattle.refusal.specs.declared.Refusal.the-variants.{BadField, BadFlow, BadIndex}
 use Rattle.refusal.specs.Tests.{when, or-else, each-below}
 use Rattle.refusal.proofs.Ordered.{or-else-passes, when-passes, each-below-passes}
-use Rattle.plan.specs.Cells.{within}
+use Rattle.plan.proofs.Passed.{within-parts}
 use Rattle.layout.specs.Fields.{byte, long, kind-at, port-count, cell-count, hop-count, delay-at, cell-offset, flow-at, first-at, hop-offset, next-at, sent-at}
 use Rattle.layout.specs.Order.{load-nonzero, port-fields, cell-fields, hop-fields, leads-on, field-tests}
 use Rattle.schedule.specs.Chains.{Linked}
@@ -22,17 +22,12 @@ use Rattle.schedule.specs.Chains.{Linked}
 last-passes : (a b c : Option Refusal) → or-else a (or-else b c) ≡ None → c ≡ None
 last-passes a b c h = or-else-passes b c (or-else-passes a (or-else b c) h .1) .1
 
--- a number within bounds
-pub within-true : (low high x : ℕ) → not (within low high x) ≡ false → (low ≤ x) × (x ≤ high)
-within-true low high x h =
-    let p = and-parts (leb low x) (leb x high) (not-false _ h) in (leb-true low x (p .0), leb-true x high (p .1))
-
 -- a field that must be zero in a load
 pub load-zero : (bs : List ℕ) (v : ℕ) → load-nonzero bs v ≡ false → kind-at bs ≡ 1 → v ≡ 0
 load-zero bs v h k =
     elim (and-cases (eqb (kind-at bs) 1) (not (eqb v 0)) h) [
-      inl e ↦ absurd (false≢true (sym e ∙ eq-eqb (kind-at bs) 1 k))
-    | inr e ↦ eqb-true v 0 (not-false (eqb v 0) e)
+      | inl e ↦ absurd (false≢true (sym e ∙ eq-eqb (kind-at bs) 1 k))
+      | inr e ↦ eqb-true v 0 (not-false (eqb v 0) e)
     ]
 
 module _ (bs : List ℕ) (passed : field-tests bs ≡ None) where
@@ -43,7 +38,7 @@ module _ (bs : List ℕ) (passed : field-tests bs ≡ None) where
   rest-passed = or-else-passes _ _ (or-else-passes _ _ passed .1)
 
   pub delay-fits : (p : ℕ) → p < port-count bs → (1 ≤ delay-at bs p) × (delay-at bs p ≤ 255)
-  delay-fits p l = within-true 1 255 (delay-at bs p) (when-passes _ _ (each-below-passes (port-fields bs) (port-count bs) p ports-passed l))
+  delay-fits p l = within-parts 1 255 (delay-at bs p) (when-passes _ _ (each-below-passes (port-fields bs) (port-count bs) p ports-passed l))
 
   module _ (c : ℕ) (l : c < cell-count bs) where
     cell-passed : cell-fields bs c ≡ None

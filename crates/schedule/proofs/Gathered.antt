@@ -1,36 +1,34 @@
 -- One port, and one cell more of what has been gathered.
-use mathlib.Core.Bool.{Bool, true, false, not}
-use mathlib.Core.Path.{_≡_, refl, sym, ap, subst, _∙_}
+use mathlib.Core.Bool.{not}
+use mathlib.Core.Path.{_≡_, sym, ap, subst, _∙_}
 use mathlib.Core.List.{List, [], _∷_, _++_, map}
-use mathlib.Core.Logic.{_⊎_, inl, inr}
-use Prim.Native.Nat.{ℕ, zero, suc, _+_, _-_, _^_, _<_, _≤_, min}
+use mathlib.Core.Logic.{inl, inr}
+use Prim.Native.Nat.{ℕ, _+_, _-_, _<_, _≤_, min}
 use native.Mathlib.Omega.{arith}
-use lib.Dec.{leb, ltb}
-use lib.IntN.{ℤ, pos}
+use lib.Dec.{leb}
 use lib.ListN.{length, getD, take}
 use mir.Syntax.{w32}
 use mir.Val.{toZ, SFits}
 use Rattle.std.proofs.shelf.Lists.{length-push, getD-append-left, getD-push, length-map, getD-map, take-all}
 use Rattle.std.proofs.shelf.Tests.{cases-eq, le-leb, lt-leb, le-ltb, and-from}
 use Rattle.std.specs.declared.option.Option.{Option}
-use Rattle.std.specs.declared.option.Option.the-variants.{Some, None}
+use Rattle.std.specs.declared.option.Option.the-variants.{None}
 use Rattle.refusal.specs.Tests.{when, or-else, each-below, Refuses}
 use Rattle.refusal.specs.declared.Refusal.{Refusal}
-use Rattle.refusal.specs.declared.Refusal.the-variants.{NoMemory, BadDelay, BadFlow, PlanFull}
+use Rattle.refusal.specs.declared.Refusal.the-variants.{BadDelay, BadFlow, PlanFull}
 use Rattle.refusal.proofs.Ordered.{or-else-none, or-else-after, or-else-passes, refuses-by, each-below-stops}
-use Rattle.plan.specs.Cells.{Planned, no-cell, port-test, route-test, cell-test, within}
-use Rattle.layout.specs.Contents.{Hop, Scheduled, Marked, no-hop, kind-number}
-use Rattle.layout.specs.Fields.{kind-at, port-count, cell-count, hop-count, delay-at, long, cell-offset, entry-at, flow-at, first-at, slack-at, port-at, sent-at}
+use Rattle.plan.specs.Cells.{Planned, no-cell, port-test, route-test, cell-test}
+use Rattle.layout.specs.Contents.{Marked, no-hop, kind-number}
+use Rattle.layout.specs.Fields.{kind-at, port-count, cell-count, hop-count, delay-at, entry-at, flow-at, first-at, slack-at, port-at, sent-at}
 use Rattle.layout.specs.Holding.{Cell-held, Chained}
 use Rattle.layout.specs.Order.{field-tests, chain-of, chain-test, twice-test}
 use Rattle.layout.specs.declared.kind.Kind.{Kind}
-use Rattle.layout.specs.declared.kind.Kind.the-variants.{Load}
-use Rattle.schedule.specs.Chains.{Linked, Noted}
+use Rattle.schedule.specs.Chains.{Noted}
 use Rattle.schedule.specs.Gathering.{Ported, Gathered, Stops}
 use Rattle.schedule.specs.Marking.{hops-of, scheduled, no-marks}
 use Rattle.schedule.specs.declared.chain.Found.{Found}
 use Rattle.schedule.specs.declared.marks.Marks.{Marks}
-use Rattle.schedule.proofs.Fielded.{delay-fits, flow-fits, first-fits, slack-zero, sent-zero, linked}
+use Rattle.schedule.proofs.Fielded.{flow-fits, first-fits, slack-zero, sent-zero, linked}
 use Rattle.schedule.proofs.Routes.{kept-ports, test-kept, route-few, hop-at, hops-are, chained, in-file}
 
 -- what holds of each place of two lists, with one place more
@@ -39,13 +37,13 @@ push-both : {X Y : Type 0} (P : ℕ → X → Y → Type 0) (xs : List X) (ys : 
     → (i : ℕ) → i < n + 1 → P i (getD (xs ++ x ∷ []) i d) (getD (ys ++ y ∷ []) i e)
 push-both P xs ys x d y e n a b below here i l =
     elim (cases-eq i n) [
-      inl q ↦ subst (λ k. P k (getD (xs ++ x ∷ []) k d) (getD (ys ++ y ∷ []) k e)) (sym q)
-        (subst (λ v. P n v (getD (ys ++ y ∷ []) n e)) (sym (getD-push xs x d n a)) (subst (P n x) (sym (getD-push ys y e n b)) here))
-    | inr q ↦
-        (let m : i < n = omega arith in
-        let v : i < length xs = omega arith in
-        let w : i < length ys = omega arith in
-        subst (λ z. P i z (getD (ys ++ y ∷ []) i e)) (sym (getD-append-left xs (x ∷ []) d i v)) (subst (P i (getD xs i d)) (sym (getD-append-left ys (y ∷ []) e i w)) (below i m)))
+      | inl q ↦ subst (λ k. P k (getD (xs ++ x ∷ []) k d) (getD (ys ++ y ∷ []) k e)) (sym q)
+          (subst (λ v. P n v (getD (ys ++ y ∷ []) n e)) (sym (getD-push xs x d n a)) (subst (P n x) (sym (getD-push ys y e n b)) here))
+      | inr q ↦
+          (let m : i < n = omega arith in
+          let v : i < length xs = omega arith in
+          let w : i < length ys = omega arith in
+          subst (λ z. P i z (getD (ys ++ y ∷ []) i e)) (sym (getD-append-left xs (x ∷ []) d i v)) (subst (P i (getD xs i d)) (sym (getD-append-left ys (y ∷ []) e i w)) (below i m)))
     ]
 
 -- a delay of 1 to 255 for one of at most 32 ports passes
@@ -69,7 +67,7 @@ module _ (bs : List ℕ) (passed : field-tests bs ≡ None) (c : ℕ) (known : c
       let f = flow-fits bs passed c known in
       ap (or-else (route-test n c r))
       (ap (λ b. or-else (when b (BadFlow c)) (when (leb 256 c) (PlanFull c))) (le-ltb 7 flow (omega arith))
-        ∙ ap (λ b. when b (PlanFull c)) (lt-leb 256 c few))
+      ∙ ap (λ b. when b (PlanFull c)) (lt-leb 256 c few))
       ∙ or-else-none (route-test n c r)
 
   -- the tests of the kept ports are those of the whole route
@@ -112,21 +110,21 @@ module _ (bs : List ℕ) (passed : field-tests bs ≡ None) (c : ℕ) (known : c
             flow = flow;
             slack = slack;
             hops = subst (λ hs. Chained bs (first-at bs c) hs) (sym hops-held)
-              (chained bs (linked bs passed) (hop-count bs) (first-at bs c) (first-fits bs passed c known) (λ p. omega arith));
+                (chained bs (linked bs passed) (hop-count bs) (first-at bs c) (first-fits bs passed c known) (λ p. omega arith));
           }
 
       pub marked-more : (k : Kind) → kind-number k ≡ kind-at bs → SFits w32 (m .slack) → Marked k (scheduled x m)
       marked-more k kind small =
           let long-is : length (scheduled x m .hops) ≡ length (chain-of bs c) = ap length hops-held ∙ length-map (chain-of bs c) (hop-at bs) in
           let at : (j : ℕ) → j < length (chain-of bs c) → getD (scheduled x m .hops) j no-hop .sent ≡ sent-at bs (getD (chain-of bs c) j 0)
-                = λ j l. ap (λ hs. getD hs j no-hop .sent) hops-held ∙ ap (λ h. h .sent) (hop-is j l) in
-          ( small
-          , (λ j l. let in′ : j < length (chain-of bs c) = omega arith in let a = few-hops in let e = at j in′ in
-              let g = noted .sent j in′ (omega arith) in let b = noted .fits j (omega arith) in omega arith)
-          , (λ e. slack ∙ ap (toZ w32) (slack-zero bs passed c known (sym kind ∙ ap kind-number e)))
-          , (λ e j l. let in′ : j < length (chain-of bs c) = omega arith in
-              let r = in-file bs (linked bs passed) (hop-count bs) (first-at bs c) (first-fits bs passed c known) j in′ in
-              at j in′ ∙ sent-zero bs passed (getD (chain-of bs c) j 0) (r .0) (r .1) (sym kind ∙ ap kind-number e))
+          = λ j l. ap (λ hs. getD hs j no-hop .sent) hops-held ∙ ap (λ h. h .sent) (hop-is j l) in (
+            small,
+            (λ j l. let in′ : j < length (chain-of bs c) = omega arith in let a = few-hops in let e = at j in′ in
+                let g = noted .sent j in′ (omega arith) in let b = noted .fits j (omega arith) in omega arith),
+            (λ e. slack ∙ ap (toZ w32) (slack-zero bs passed c known (sym kind ∙ ap kind-number e))),
+            (λ e j l. let in′ : j < length (chain-of bs c) = omega arith in
+                let r = in-file bs (linked bs passed) (hop-count bs) (first-at bs c) (first-fits bs passed c known) j in′ in
+                at j in′ ∙ sent-zero bs passed (getD (chain-of bs c) j 0) (r .0) (r .1) (sym kind ∙ ap kind-number e)),
           )
 
 -- one cell more
@@ -177,9 +175,9 @@ module _ (bs : List ℕ) (passed : field-tests bs ≡ None) (c : ℕ) (known : c
   chain-tested =
       or-else-after _ (route-test (port-count bs) c (map (port-at bs) (chain-of bs c))) walked
       ∙ sym (ap (cell-test (length ds) (length cs) flow) route
-        ∙ ap (λ n. cell-test n (length cs) flow (take (min (f .len) 9) (f .ports))) ports
-        ∙ ap (λ n. cell-test (port-count bs) n flow (take (min (f .len) 9) (f .ports))) cells
-        ∙ kept-test bs passed c known (port-count bs) flow f flow-is few noted)
+      ∙ ap (λ n. cell-test n (length cs) flow (take (min (f .len) 9) (f .ports))) ports
+      ∙ ap (λ n. cell-test (port-count bs) n flow (take (min (f .len) 9) (f .ports))) cells
+      ∙ kept-test bs passed c known (port-count bs) flow f flow-is few noted)
 
   -- its refusal is that of the chain's tests
   pub gather-stops : (e : Refusal) → Refuses (cell-test (length ds) (length cs) flow r) e → Stops (chain-test bs c) e

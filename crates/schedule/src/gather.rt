@@ -8,7 +8,7 @@ ghost use Rattle.std.specs.declared.option.Option.the-variants.{None};
 ghost use Rattle.refusal.specs.Tests.{tested, each-below};
 ghost use Rattle.plan.specs.Plans.{delays-of, cells-of};
 ghost use Rattle.layout.specs.Fields.{port-count};
-ghost use Rattle.layout.specs.Order.{field-tests, reached, unreached-test, chain-tests};
+ghost use Rattle.layout.specs.Order.{field-tests, reached, unreached-test};
 ghost use Rattle.schedule.specs.Chains.{Seen};
 ghost use Rattle.schedule.specs.Gathering.{Opened, Ported, Gathered, Cell-gathered, All-gathered};
 use crate::chain::walk;
@@ -20,7 +20,7 @@ use refusal::RefusalFromRefused;
 use std::alloc::Global;
 
 // A plan with the ports of the file.
-pub fn open_plan(image: &Image, heap: Global) -> Result<Plan, Refusal>
+pub(crate) fn open_plan(image: &Image, heap: Global) -> Result<Plan, Refusal>
     requires { ⌜ field-tests (now (now image .bytes)) ≡ None ⌝ }
     ensures { λ r. ⌜ Opened (now (now (image .entry) .bytes)) r ⌝ }
 {
@@ -68,7 +68,11 @@ fn test_reached(image: &Image, seen: &[bool; 2049]) -> Result<(), Refusal>
 }
 
 // Adds every cell to the plan, and gives their marks.
-pub fn gather_cells(image: &Image, heap: Global, plan: &mut Plan) -> Result<Vec<Marks>, Refusal>
+pub(crate) fn gather_cells(
+    image: &Image,
+    heap: Global,
+    plan: &mut Plan,
+) -> Result<Vec<Marks>, Refusal>
     requires passed { ⌜ field-tests (now (now image .bytes)) ≡ None ⌝ }
     requires ports { ⌜ Ported (now (now image .bytes)) (port-count (now (now image .bytes))) (delays-of (now plan)) ⌝ }
     requires empty { ⌜ cells-of (now plan) ≡ [] ⌝ }

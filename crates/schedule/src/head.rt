@@ -60,7 +60,7 @@ fn test_counts(ports: usize, cells: usize, hops: usize) -> Result<(), Refusal>
 
 impl Head {
     // The head's tests in their order: a length under 8, kind, pile, counts, and the whole length.
-    pub fn read(bytes: &[u8], accepts: Accepts) -> Result<Head, Refusal>
+    pub(crate) fn read(bytes: &[u8], accepts: Accepts) -> Result<Head, Refusal>
         ensures { λ r. ⌜ Head-read accepts (now (bytes .entry)) r ⌝ }
     {
         if bytes.len() < 8 {
@@ -75,6 +75,12 @@ impl Head {
         if bytes.len() != 8 + 2 * ports + 10 * cells + 8 * hops {
             return Err(Refusal::WrongLength(bytes.len()));
         }
-        Ok(Head { kind, pile, ports, cells, hops })
+        Ok(Head {
+            kind,
+            pile,
+            ports,
+            cells,
+            hops,
+        })
     }
 }

@@ -5,7 +5,7 @@ ghost use lib.ListN.{length};
 ghost use Rattle.layout.specs.Fields.{word, long};
 
 // A number of two bytes.
-pub fn word_at(bytes: &[u8], at: usize) -> u16
+pub(crate) fn word_at(bytes: &[u8], at: usize) -> u16
     requires { ⌜ at + 2 ≤ length (now bytes) ⌝ }
     ensures { λ r. ⌜ r ≡ word (now (bytes .entry)) at ⌝ }
 {
@@ -13,7 +13,7 @@ pub fn word_at(bytes: &[u8], at: usize) -> u16
 }
 
 // A number of four bytes.
-pub fn long_at(bytes: &[u8], at: usize) -> u32
+pub(crate) fn long_at(bytes: &[u8], at: usize) -> u32
     requires { ⌜ at + 4 ≤ length (now bytes) ⌝ }
     ensures { λ r. ⌜ r ≡ long (now (bytes .entry)) at ⌝ }
 {

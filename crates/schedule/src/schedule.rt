@@ -3,7 +3,6 @@ mod read;
 mod source;
 
 pub use source::ScheduleSource;
-
 ghost use mathlib.Core.Path.{_≡_};
 ghost use Prim.Native.Nat.{_<_};
 ghost use lib.ListN.{length};

@@ -1,9 +1,9 @@
 // The walk along a chain.
 ghost use mathlib.Core.Path.{_≡_};
 ghost use mathlib.Core.Bool.{true, false};
-ghost use mathlib.Core.List.{List, _++_};
-ghost use Prim.Native.Nat.{ℕ, _+_, _<_, _≤_, min};
-ghost use lib.ListN.{length, getD, set, take};
+ghost use mathlib.Core.List.{List};
+ghost use Prim.Native.Nat.{ℕ, _+_, _<_, min};
+ghost use lib.ListN.{getD, set, take};
 ghost use denote.Ref.{now};
 ghost use Rattle.std.specs.Results.{Cases};
 ghost use Rattle.refusal.specs.declared.Refusal.the-variants.{BadChain};
@@ -26,7 +26,11 @@ impl Found {
     fn none() -> Found
         ensures { λ r. ⌜ ((bs chain : List ℕ) → Noted bs chain 0 r) ⌝ }
     {
-        Found { ports: [0; 9], sent: [0; 8], len: 0 }
+        Found {
+            ports: [0; 9],
+            sent: [0; 8],
+            len: 0,
+        }
     }
 
     // One record more; what has no place is counted only.
@@ -43,14 +47,14 @@ impl Found {
     }
 
     // The ports of the route, or the first 9 of them.
-    pub fn ports(&self) -> &[u8]
+    pub(crate) fn ports(&self) -> &[u8]
         ensures { λ r. ⌜ now r ≡ take (min (now (self .entry) .len) 9) (now (self .entry) .ports) ⌝ }
     {
         &self.ports[0..self.len.min(9)]
     }
 
     // The slots in which the cell was sent; past the route's end they are 0.
-    pub fn sent(&self) -> [u32; 8]
+    pub(crate) fn sent(&self) -> [u32; 8]
         ensures { λ r. ⌜ r ≡ now (self .entry) .sent ⌝ }
     {
         self.sent
@@ -70,7 +74,7 @@ fn reach(seen: &mut [bool; 2049], index: usize) -> Result<(), Refusal>
 }
 
 // Walks along the chain of a cell to its end.
-pub fn walk(image: &Image, cell: usize, seen: &mut [bool; 2049]) -> Result<Found, Refusal>
+pub(crate) fn walk(image: &Image, cell: usize, seen: &mut [bool; 2049]) -> Result<Found, Refusal>
     requires linked { ⌜ Linked (now (now image .bytes)) ⌝ }
     requires known { ⌜ cell < now image .head .cells ⌝ }
     requires seen { ⌜ Seen (now seen) (reached (now (now image .bytes)) cell) ⌝ }

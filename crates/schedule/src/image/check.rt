@@ -86,7 +86,7 @@ impl Image<'_> {
         Ok(())
     }
 
-    pub fn test_fields(&self) -> Result<(), Refusal>
+    pub(crate) fn test_fields(&self) -> Result<(), Refusal>
         ensures { λ r. ⌜ r ≡ tested (field-tests (now (now (self .entry) .bytes))) ⌝ }
     {
         self.test_ports()?;

@@ -16,7 +16,7 @@ use layout::Kind;
 
 impl<'a> Image<'a> {
     // The file, once its head has passed.
-    pub fn new(bytes: &'a [u8], head: Head) -> Image<'a>
+    pub(crate) fn new(bytes: &'a [u8], head: Head) -> Image<'a>
         requires { ⌜ Headed (now bytes) head ⌝ }
         ensures bytes { λ r. ⌜ now (r .bytes) ≡ now (bytes .entry) ⌝ }
         ensures head { λ r. ⌜ r .head ≡ head ⌝ }
@@ -24,32 +24,32 @@ impl<'a> Image<'a> {
         Image { bytes, head }
     }
 
-    pub fn ports(&self) -> usize
+    pub(crate) fn ports(&self) -> usize
         ensures { λ r. ⌜ r ≡ now (self .entry) .head .ports ⌝ }
     {
         self.head.ports
     }
 
-    pub fn cells(&self) -> usize
+    pub(crate) fn cells(&self) -> usize
         ensures { λ r. ⌜ r ≡ now (self .entry) .head .cells ⌝ }
     {
         self.head.cells
     }
 
-    pub fn hops(&self) -> usize
+    pub(crate) fn hops(&self) -> usize
         ensures { λ r. ⌜ r ≡ now (self .entry) .head .hops ⌝ }
     {
         self.head.hops
     }
 
-    pub fn is_load(&self) -> bool
+    pub(crate) fn is_load(&self) -> bool
         ensures { λ r. ⌜ r ≡ eqb (kind-at (now (now (self .entry) .bytes))) 1 ⌝ }
     {
         matches!(self.head.kind, Kind::Load)
     }
 
     // The delay of a port.
-    pub fn delay(&self, port: usize) -> u16
+    pub(crate) fn delay(&self, port: usize) -> u16
         requires { ⌜ port < now self .head .ports ⌝ }
         ensures { λ r. ⌜ r ≡ delay-at (now (now (self .entry) .bytes)) port ⌝ }
     {
@@ -57,7 +57,7 @@ impl<'a> Image<'a> {
     }
 
     // The record of a cell.
-    pub fn cell(&self, cell: usize) -> RawCell
+    pub(crate) fn cell(&self, cell: usize) -> RawCell
         requires { ⌜ cell < now self .head .cells ⌝ }
         ensures { λ r. ⌜ r ≡ raw-cell (now (now (self .entry) .bytes)) cell ⌝ }
     {
@@ -73,7 +73,7 @@ impl<'a> Image<'a> {
     }
 
     // A hop record, by its index from 1 on.
-    pub fn hop(&self, index: usize) -> RawHop
+    pub(crate) fn hop(&self, index: usize) -> RawHop
         requires { ⌜ 0 < index ⌝ ∗ ⌜ index ≤ now self .head .hops ⌝ }
         ensures { λ r. ⌜ r ≡ raw-hop (now (now (self .entry) .bytes)) index ⌝ }
     {

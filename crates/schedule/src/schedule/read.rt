@@ -18,7 +18,12 @@ fn read_kinds(heap: Global, bytes: &[u8], accepts: Accepts) -> Result<Schedule, 
     image.test_fields()?;
     let mut plan = open_plan(&image, heap)?;
     let marks = gather_cells(&image, heap, &mut plan)?;
-    Ok(Schedule { kind: head.kind, pile: head.pile, plan, marks })
+    Ok(Schedule {
+        kind: head.kind,
+        pile: head.pile,
+        plan,
+        marks,
+    })
 }
 
 impl Schedule {

@@ -32,11 +32,21 @@ pub impl Source for Schedule as ScheduleSource {
 
     fn cell(&self, cell: usize) -> CellFields {
         let Some(planned) = self.plan.cell(cell) else {
-            return CellFields { entry: 0, flow: 0, slack: 0, hops: 0 };
+            return CellFields {
+                entry: 0,
+                flow: 0,
+                slack: 0,
+                hops: 0,
+            };
         };
         let slack = self.marks[cell].slack;
         let hops = planned.route().ports().len();
-        CellFields { entry: planned.entry(), flow: planned.flow(), slack, hops }
+        CellFields {
+            entry: planned.entry(),
+            flow: planned.flow(),
+            slack,
+            hops,
+        }
     }
 
     fn hop(&self, cell: usize, position: usize) -> HopFields {
@@ -49,7 +59,10 @@ pub impl Source for Schedule as ScheduleSource {
         if position >= ports.len() {
             return none;
         }
-        HopFields { port: ports[position], sent: self.marks[cell].sent[position] }
+        HopFields {
+            port: ports[position],
+            sent: self.marks[cell].sent[position],
+        }
     }
 
     fn hops(&self) -> usize {

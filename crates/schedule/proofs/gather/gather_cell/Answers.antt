@@ -30,7 +30,7 @@ returns-in-Break-add-cell c =
     let h = c .in-Break-add-cell .ensures tt in
     rw (p .1, p .2)
     (gather-stops bs (c .pre .passed) (c .args .cell) known few (delays-of (c .args .plan .now)) (cells-of (c .args .plan .now)) _ _ _
-      (g .ports .count) (g .cells) (ap (λ r. r .flow) (c .cell-raw .ensures)) (c .ports .ensures) (w .0) (w .1) _ (h .0))
+    (g .ports .count) (g .cells) (ap (λ r. r .flow) (c .cell-raw .ensures)) (c .ports .ensures) (w .0) (w .1) _ (h .0))
 
 pub returns : need.returns
 returns c =
@@ -50,9 +50,12 @@ returns c =
     let slack-is : m .slack ≡ slack-at bs (c .args .cell) = same ∙ c .cast-signed-slack .ensures ∙ ap (λ r. toZ w32 (r .slack)) raw in
     let fits : SFits w32 (m .slack) = subst (SFits w32) (sym same) small in
     let passes = gather-passes bs (c .pre .passed) (c .args .cell) known few (delays-of (c .args .plan .now)) (cells-of (c .args .plan .now)) _ _ _
-      (g .ports .count) (g .cells) (ap (λ r. r .flow) raw) (c .ports .ensures) (w .0) (w .1) (h .0) in
+    (g .ports .count) (g .cells) (ap (λ r. r .flow) raw) (c .ports .ensures) (w .0) (w .1) (h .0) in
     let done = gather-done bs (c .pre .passed) (c .args .cell) known few (delays-of (c .args .plan .now)) (cells-of (c .args .plan .now)) _ _ _
-      (g .ports .count) (g .cells) (ap (λ r. r .flow) raw) (c .ports .ensures) (w .0) (w .1) (h .0)
-      (c .args .image .now .head .kind) _ _ m (c .args .image .now .«kind_read») (ap (λ r. r .entry) raw) slack-is (c .sent-sent .ensures) fits g in
-    (passes, subst (λ n. Seen (c .walk .last .seen) (reached bs n)) (sym (add-one (c .args .cell))) (w .2), w .3
-    , gathered-as bs (c .args .image .now .head .kind) (c .args .cell + 1) (h .2 .delays) (h .2 .cells) (c .in-Continue-push .ensures tt .items) done)
+    (g .ports .count) (g .cells) (ap (λ r. r .flow) raw) (c .ports .ensures) (w .0) (w .1) (h .0)
+    (c .args .image .now .head .kind) _ _ m (c .args .image .now .«kind_read») (ap (λ r. r .entry) raw) slack-is (c .sent-sent .ensures) fits g in (
+      passes,
+      subst (λ n. Seen (c .walk .last .seen) (reached bs n)) (sym (add-one (c .args .cell))) (w .2),
+      w .3,
+      gathered-as bs (c .args .image .now .head .kind) (c .args .cell + 1) (h .2 .delays) (h .2 .cells) (c .in-Continue-push .ensures tt .items) done,
+    )

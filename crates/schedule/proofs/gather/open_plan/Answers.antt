@@ -1,11 +1,11 @@
 use mathlib.Core.Path.{_≡_, sym, ap, _∙_, subst}
-use Prim.Native.Nat.{_<_, _≤_, _+_}
+use Prim.Native.Nat.{_<_, _+_}
 use native.Mathlib.Omega.{arith}
 use lib.ListN.{length}
 use Rattle.std.proofs.shelf.Results.{err-from-errBy}
 use Rattle.refusal.proofs.Ordered.{refuses-none}
 use Rattle.plan.specs.Plans.{delays-of}
-use Rattle.layout.specs.Fields.{port-count, delay-at}
+use Rattle.layout.specs.Fields.{port-count}
 use Rattle.schedule.specs.Gathering.{Ported}
 use Rattle.schedule.proofs.Fielded.{delay-fits}
 use Rattle.schedule.proofs.Gathered.{port-passes, ported-more}
@@ -19,10 +19,11 @@ loop-port-holds c =
 pub loop-port-again : need.loop-port-again
 loop-port-again c =
     let bs = c .args .image .now .bytes .now in
-    let h = c .in-Continue-add-port .ensures tt in
-    ( subst (λ ds. Ported bs (c .loop-port .port + 1) ds) (sym (h .2 .delays))
-      (ported-more bs (c .loop-port .port) (c .delay .result) (delays-of (c .loop-port .plan)) (c .delay .ensures) (c .loop-port .inv .0))
-    , h .2 .cells ∙ c .loop-port .inv .1)
+    let h = c .in-Continue-add-port .ensures tt in (
+      subst (λ ds. Ported bs (c .loop-port .port + 1) ds) (sym (h .2 .delays))
+          (ported-more bs (c .loop-port .port) (c .delay .result) (delays-of (c .loop-port .plan)) (c .delay .ensures) (c .loop-port .inv .0)),
+      h .2 .cells ∙ c .loop-port .inv .1,
+    )
 
 pub returns-in-Break-add-port : need.returns-in-Break-add-port
 returns-in-Break-add-port c =

@@ -27,7 +27,7 @@ returns-then-not-seen-k c =
     let end = c .hops-k-end .ensures in
     let in′ : c .loop-k .k + 1 < length (c .args .seen .now) = omega arith in
     sym (ap tested (each-below-stops (λ k. unreached-test bs (k + 1)) (c .loop-k .k) (c .args .image .now .head .hops) (BadChain (c .loop-k .k + 1)) (omega arith) (c .loop-k .inv)
-      (flag-tells bs (c .args .seen .now) (c .args .image .now .head .cells) (c .loop-k .k + 1) false (c .args .image .now .«cells_read») (c .pre) in′ (c .if-not-seen-k .taken))))
+    (flag-tells bs (c .args .seen .now) (c .args .image .now .head .cells) (c .loop-k .k + 1) false (c .args .image .now .«cells_read») (c .pre) in′ (c .if-not-seen-k .taken))))
 
 pub loop-k-again : need.loop-k-again
 loop-k-again c =

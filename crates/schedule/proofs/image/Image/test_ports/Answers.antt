@@ -1,4 +1,3 @@
-use mathlib.Core.Path.{_≡_}
 use Rattle.std.proofs.shelf.Results.{err-from-errBy}
 use Rattle.refusal.proofs.Ordered.{turn-passes, turn-refuses}
 use Rattle.layout.specs.Order.{port-fields}

@@ -44,7 +44,7 @@ returns-in-Break-marks c =
     let bs = c .args .bytes .now in
     let passed : field-tests bs ≡ None = subst (λ b. field-tests b ≡ None) (c .new-image .ensures .bytes) (tested-passes _ _ (c .in-Continue-test-fields .ensures tt)) in
     rw (p .1, p .2) (stops-later _ _ _ (c .in-Continue-head .ensures tt .0) (stops-later _ _ _ passed
-      (subst (λ b. Stops (chain-tests b) (c .in-Break-marks .field-0 .0)) (c .new-image .ensures .bytes) (c .in-Break-marks .ensures tt))))
+    (subst (λ b. Stops (chain-tests b) (c .in-Break-marks .field-0 .0)) (c .new-image .ensures .bytes) (c .in-Break-marks .ensures tt))))
 
 pub ghost-result : need.ghost-result
 ghost-result c =
@@ -58,12 +58,19 @@ ghost-result c =
     let some-ports = head .some-ports in
     let some-cells = head .some-cells in
     let ports-are = head .ports in
-    let cells-are = head .cells in
-    ( omega arith
-    , (omega arith
-    , (marks .ok .0 ∙ g .marks ∙ sym (g .cells)
-    , (∣ (λ i l. g .marked i (omega arith)) ∣₁
-    , tt))))
+    let cells-are = head .cells in (
+      omega arith,
+      (
+        omega arith,
+        (
+          marks .ok .0 ∙ g .marks ∙ sym (g .cells),
+          (
+            ∣ (λ i l. g .marked i (omega arith)) ∣₁,
+            tt,
+          ),
+        ),
+      ),
+    )
 
 pub returns : need.returns
 unfolding first-refusal
@@ -72,7 +79,7 @@ returns c =
     let head = c .in-Continue-head .ensures tt .1 in
     let passed : field-tests bs ≡ None = subst (λ b. field-tests b ≡ None) (c .new-image .ensures .bytes) (tested-passes _ _ (c .in-Continue-test-fields .ensures tt)) in
     let chains : chain-tests bs ≡ None = subst (λ b. chain-tests b ≡ None) (c .new-image .ensures .bytes) (c .in-Continue-marks .ensures tt .0) in
-    let g = renamed (c .new-image .ensures .bytes) (ap (λ h. h .kind) (c .new-image .ensures .head)) (c .in-Continue-marks .ensures tt .1) in
-    ( or-else-after _ _ (c .in-Continue-head .ensures tt .0) ∙ or-else-after _ _ passed ∙ chains
-    , held-whole bs _ _ _ _ _ (head .kind) (head .pile) g
+    let g = renamed (c .new-image .ensures .bytes) (ap (λ h. h .kind) (c .new-image .ensures .head)) (c .in-Continue-marks .ensures tt .1) in (
+      or-else-after _ _ (c .in-Continue-head .ensures tt .0) ∙ or-else-after _ _ passed ∙ chains,
+      held-whole bs _ _ _ _ _ (head .kind) (head .pile) g,
     )

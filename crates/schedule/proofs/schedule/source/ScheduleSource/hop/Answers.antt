@@ -1,12 +1,10 @@
-use mathlib.Core.Path.{_≡_, refl, sym, ap, subst, _∙_}
-use mathlib.Core.List.{List}
+use mathlib.Core.Path.{_≡_, sym, ap, _∙_}
 use Prim.Native.Nat.{ℕ}
 use native.Mathlib.Omega.{arith}
 use lib.ListN.{length, getD}
 use Rattle.plan.specs.Cells.{planned, ports-of}
 use Rattle.layout.specs.Contents.{Hop, no-hop}
 use Rattle.layout.specs.Sources.{Tells-hop}
-use Rattle.layout.specs.declared.fields.HopFields.{HopFields}
 use Rattle.schedule.proofs.Contents.{cell-past, hop-is, hop-past}
 use Rattle.schedule.proofs.schedule.source.ScheduleSource.hop.Needs as need
 
@@ -29,4 +27,4 @@ returns c =
     let e = c .ports-ports .ensures ∙ ap ports-of (c .route-route .ensures) in
     let n = ap length e in
     told _ _ (hop-is (c .args .self .now) (c .args .cell) (c .args .position) (planned (c .in-Some .planned)) (c .index .result .now) (h .0) (h .1) (c .index .ensures) (omega arith)
-      ∙ ap (λ ps. record { port = getD ps (c .args .position) 0; sent = getD (c .index .result .now .sent) (c .args .position) 0 }) (sym e))
+    ∙ ap (λ ps. record { port = getD ps (c .args .position) 0; sent = getD (c .index .result .now .sent) (c .args .position) 0 }) (sym e))

@@ -1,0 +1,446 @@
+// Damaged schedule files, and the refusal that each must get. The files differ from a whole one in one way, and those
+// under `orders` in two.
+#[cfg(test)]
+mod tests {
+    use layout::file_length;
+    use layout::write;
+    use refusal::RefusalDebug;
+    use schedule::Schedule;
+    use schedule::ScheduleSource;
+    use std::alloc::Global;
+    use std::test::*;
+
+    // one port of delay 1, one cell that enters in slot 9
+    const SMALLEST: [u8; 28] = [
+        1,
+        0,
+        0,
+        1,
+        0,
+        1,
+        0,
+        1,
+        0,
+        1,
+        0,
+        9,
+        0,
+        0,
+        0,
+        1,
+        0,
+        0,
+        0,
+        0,
+        0,
+        0,
+        0,
+        0,
+        0,
+        0,
+        0,
+        0,
+    ];
+
+    fn refused(
+        heap: Global,
+        what: &str,
+        bytes: &[u8],
+        number: u8,
+        place: usize,
+    ) -> Result<(), Fail> {
+        match Schedule::read(heap, bytes) {
+            Ok(_) => Err(Fail::new("it was accepted")).note(what),
+            Err(refusal) => {
+                check_eq(refusal.number(), number).note(what)?;
+                check_eq(refusal.place(), place).note(what)
+            }
+        }
+    }
+
+    #[test]
+    fn lengths(rt: LibcRuntime) -> Result<(), Fail> {
+        let heap = rt.alloc();
+        refused(heap, "no bytes", b"", 1, 0)?;
+        refused(heap, "seven bytes", b"\x01\x00\x00\x01\x00\x01\x00", 1, 7)?;
+        refused(
+            heap,
+            "the last byte is missing",
+            b"\x01\x00\x00\x01\x00\x01\x00\x01\x00\x01\x00\x09\x00\x00\x00\x01\x00\x00\x00\x00\x00\x00\x00\x00\x00\x00\x00",
+            1,
+            27,
+        )?;
+        refused(
+            heap,
+            "one byte too many",
+            b"\x01\x00\x00\x01\x00\x01\x00\x01\x00\x01\x00\x09\x00\x00\x00\x01\x00\x00\x00\x00\x00\x00\x00\x00\x00\x00\x00\x00\x00",
+            1,
+            29,
+        )
+    }
+
+    #[test]
+    fn fields_that_must_be_known_or_zero(rt: LibcRuntime) -> Result<(), Fail> {
+        let heap = rt.alloc();
+        refused(
+            heap,
+            "kind 0",
+            b"\x00\x00\x00\x01\x00\x01\x00\x01\x00\x01\x00\x09\x00\x00\x00\x01\x00\x00\x00\x00\x00\x00\x00\x00\x00\x00\x00\x00",
+            2,
+            0,
+        )?;
+        refused(
+            heap,
+            "kind 4",
+            b"\x04\x00\x00\x01\x00\x01\x00\x01\x00\x01\x00\x09\x00\x00\x00\x01\x00\x00\x00\x00\x00\x00\x00\x00\x00\x00\x00\x00",
+            2,
+            0,
+        )?;
+        refused(
+            heap,
+            "pile 3",
+            b"\x01\x03\x00\x01\x00\x01\x00\x01\x00\x01\x00\x09\x00\x00\x00\x01\x00\x00\x00\x00\x00\x00\x00\x00\x00\x00\x00\x00",
+            2,
+            1,
+        )?;
+        refused(
+            heap,
+            "a cell's zero",
+            b"\x01\x00\x00\x01\x00\x01\x00\x01\x00\x01\x00\x09\x00\x01\x00\x01\x00\x00\x00\x00\x00\x00\x00\x00\x00\x00\x00\x00",
+            2,
+            13,
+        )?;
+        refused(
+            heap,
+            "a slack in a load",
+            b"\x01\x00\x00\x01\x00\x01\x00\x01\x00\x01\x00\x09\x00\x00\x00\x01\x00\x00\x00\x01\x00\x00\x00\x00\x00\x00\x00\x00",
+            2,
+            16,
+        )?;
+        refused(
+            heap,
+            "a hop's zero",
+            b"\x01\x00\x00\x01\x00\x01\x00\x01\x00\x01\x00\x09\x00\x00\x00\x01\x00\x00\x00\x00\x00\x00\x00\xff\x00\x00\x00\x00",
+            2,
+            23,
+        )?;
+        refused(
+            heap,
+            "a sent slot in a load",
+            b"\x01\x00\x00\x01\x00\x01\x00\x01\x00\x01\x00\x09\x00\x00\x00\x01\x00\x00\x00\x00\x00\x00\x00\x00\x80\x00\x00\x00",
+            2,
+            24,
+        )
+    }
+
+    #[test]
+    fn counts(rt: LibcRuntime) -> Result<(), Fail> {
+        let heap = rt.alloc();
+        refused(
+            heap,
+            "no port",
+            b"\x01\x00\x00\x00\x00\x01\x00\x01\x00\x01\x00\x09\x00\x00\x00\x01\x00\x00\x00\x00\x00\x00\x00\x00\x00\x00\x00\x00",
+            3,
+            2,
+        )?;
+        refused(
+            heap,
+            "33 ports",
+            b"\x01\x00\x00\x21\x00\x01\x00\x01\x00\x01\x00\x09\x00\x00\x00\x01\x00\x00\x00\x00\x00\x00\x00\x00\x00\x00\x00\x00",
+            3,
+            2,
+        )?;
+        refused(
+            heap,
+            "no cell",
+            b"\x01\x00\x00\x01\x00\x00\x00\x01\x00\x01\x00\x09\x00\x00\x00\x01\x00\x00\x00\x00\x00\x00\x00\x00\x00\x00\x00\x00",
+            3,
+            4,
+        )?;
+        refused(
+            heap,
+            "257 cells",
+            b"\x01\x00\x00\x01\x01\x01\x00\x01\x00\x01\x00\x09\x00\x00\x00\x01\x00\x00\x00\x00\x00\x00\x00\x00\x00\x00\x00\x00",
+            3,
+            4,
+        )?;
+        refused(
+            heap,
+            "2,049 hops",
+            b"\x01\x00\x00\x01\x00\x01\x08\x01\x00\x01\x00\x09\x00\x00\x00\x01\x00\x00\x00\x00\x00\x00\x00\x00\x00\x00\x00\x00",
+            3,
+            6,
+        )
+    }
+
+    #[test]
+    fn delays_and_flows(rt: LibcRuntime) -> Result<(), Fail> {
+        let heap = rt.alloc();
+        refused(
+            heap,
+            "delay 0",
+            b"\x01\x00\x00\x01\x00\x01\x00\x01\x00\x00\x00\x09\x00\x00\x00\x01\x00\x00\x00\x00\x00\x00\x00\x00\x00\x00\x00\x00",
+            4,
+            8,
+        )?;
+        refused(
+            heap,
+            "delay 256",
+            b"\x01\x00\x00\x01\x00\x01\x00\x01\x01\x00\x00\x09\x00\x00\x00\x01\x00\x00\x00\x00\x00\x00\x00\x00\x00\x00\x00\x00",
+            4,
+            8,
+        )?;
+        refused(
+            heap,
+            "flow 8",
+            b"\x01\x00\x00\x01\x00\x01\x00\x01\x00\x01\x00\x09\x08\x00\x00\x01\x00\x00\x00\x00\x00\x00\x00\x00\x00\x00\x00\x00",
+            10,
+            0,
+        )
+    }
+
+    #[test]
+    fn indices(rt: LibcRuntime) -> Result<(), Fail> {
+        let heap = rt.alloc();
+        refused(
+            heap,
+            "a first index above the hop count",
+            b"\x01\x00\x00\x01\x00\x01\x00\x01\x00\x01\x00\x09\x00\x00\x00\x02\x00\x00\x00\x00\x00\x00\x00\x00\x00\x00\x00\x00",
+            5,
+            14,
+        )?;
+        refused(
+            heap,
+            "a next index that is its own",
+            b"\x01\x00\x00\x01\x00\x01\x00\x01\x00\x01\x00\x09\x00\x00\x00\x01\x00\x00\x00\x00\x00\x01\x00\x00\x00\x00\x00\x00",
+            5,
+            20,
+        )?;
+        refused(
+            heap,
+            "a next index above the hop count",
+            b"\x01\x00\x00\x01\x00\x01\x00\x01\x00\x01\x00\x09\x00\x00\x00\x01\x00\x00\x00\x00\x00\x02\x00\x00\x00\x00\x00\x00",
+            5,
+            20,
+        )
+    }
+
+    #[test]
+    fn chains(rt: LibcRuntime) -> Result<(), Fail> {
+        let heap = rt.alloc();
+        refused(
+            heap,
+            "two cells share a record",
+            b"\x01\x00\x00\x01\x00\x02\x00\x01\x00\x01\x00\x00\x00\x00\x00\x01\x00\x00\x00\x00\x00\x00\x00\x00\x00\x01\x00\x00\x00\x00\x00\x00\x00\x00\x00\x00\x00\x00",
+            6,
+            1,
+        )?;
+        refused(
+            heap,
+            "a chain joins an earlier one",
+            b"\x01\x00\x00\x02\x00\x02\x00\x03\x00\x01\x00\x01\x00\x00\x00\x00\x00\x01\x00\x00\x00\x00\x00\x00\x00\x00\x00\x02\x00\x00\x00\x00\x00\x03\x00\x00\x00\x00\x00\x00\x00\x03\x01\x00\x00\x00\x00\x00\x00\x00\x01\x00\x00\x00\x00\x00",
+            6,
+            3,
+        )?;
+        refused(
+            heap,
+            "a record on no chain",
+            b"\x01\x00\x00\x01\x00\x01\x00\x02\x00\x01\x00\x00\x00\x00\x00\x01\x00\x00\x00\x00\x00\x00\x00\x00\x00\x00\x00\x00\x00\x00\x00\x00\x00\x00\x00\x00",
+            6,
+            2,
+        )
+    }
+
+    #[test]
+    fn routes(rt: LibcRuntime) -> Result<(), Fail> {
+        let heap = rt.alloc();
+        refused(
+            heap,
+            "an empty route",
+            b"\x01\x00\x00\x01\x00\x01\x00\x01\x00\x01\x00\x09\x00\x00\x00\x00\x00\x00\x00\x00\x00\x00\x00\x00\x00\x00\x00\x00",
+            7,
+            0,
+        )?;
+        refused(
+            heap,
+            "nine ports",
+            b"\x01\x00\x00\x09\x00\x01\x00\x09\x00\x01\x00\x01\x00\x01\x00\x01\x00\x01\x00\x01\x00\x01\x00\x01\x00\x01\x00\x00\x00\x00\x00\x01\x00\x00\x00\x00\x00\x02\x00\x00\x00\x00\x00\x00\x00\x03\x01\x00\x00\x00\x00\x00\x00\x04\x02\x00\x00\x00\x00\x00\x00\x05\x03\x00\x00\x00\x00\x00\x00\x06\x04\x00\x00\x00\x00\x00\x00\x07\x05\x00\x00\x00\x00\x00\x00\x08\x06\x00\x00\x00\x00\x00\x00\x09\x07\x00\x00\x00\x00\x00\x00\x00\x08\x00\x00\x00\x00\x00",
+            7,
+            0,
+        )?;
+        refused(
+            heap,
+            "an unknown port",
+            b"\x01\x00\x00\x01\x00\x01\x00\x01\x00\x01\x00\x09\x00\x00\x00\x01\x00\x00\x00\x00\x00\x00\x01\x00\x00\x00\x00\x00",
+            8,
+            0,
+        )?;
+        refused(
+            heap,
+            "a port twice",
+            b"\x01\x00\x00\x02\x00\x01\x00\x03\x00\x01\x00\x01\x00\x00\x00\x00\x00\x01\x00\x00\x00\x00\x00\x02\x00\x00\x00\x00\x00\x00\x00\x03\x01\x00\x00\x00\x00\x00\x00\x00\x00\x00\x00\x00\x00\x00",
+            9,
+            0,
+        )
+    }
+
+    #[test]
+    fn orders(rt: LibcRuntime) -> Result<(), Fail> {
+        let heap = rt.alloc();
+        refused(
+            heap,
+            "too short and of no kind",
+            b"\x09\x00\x00\x01\x00\x01\x00",
+            1,
+            7,
+        )?;
+        refused(
+            heap,
+            "kind before pile",
+            b"\x09\x09\x00\x01\x00\x01\x00\x01\x00\x01\x00\x09\x00\x00\x00\x01\x00\x00\x00\x00\x00\x00\x00\x00\x00\x00\x00\x00",
+            2,
+            0,
+        )?;
+        refused(
+            heap,
+            "pile before counts",
+            b"\x01\x09\x00\x00\x00\x01\x00\x01\x00\x01\x00\x09\x00\x00\x00\x01\x00\x00\x00\x00\x00\x00\x00\x00\x00\x00\x00\x00",
+            2,
+            1,
+        )?;
+        refused(
+            heap,
+            "counts before the whole length",
+            b"\x01\x00\x00\x01\x00\x00\x00\x01\x00\x01\x00\x09\x00\x00\x00\x01\x00\x00\x00\x00",
+            3,
+            4,
+        )?;
+        refused(
+            heap,
+            "the whole length before delays",
+            b"\x01\x00\x00\x01\x00\x01\x00\x01\x00\x00\x00\x09\x00\x00\x00\x01\x00\x00\x00\x00\x00\x00\x00\x00\x00\x00\x00",
+            1,
+            27,
+        )?;
+        refused(
+            heap,
+            "ports before cells",
+            b"\x01\x00\x00\x01\x00\x01\x00\x01\x00\x00\x00\x09\x08\x00\x00\x01\x00\x00\x00\x00\x00\x00\x00\x00\x00\x00\x00\x00",
+            4,
+            8,
+        )?;
+        refused(
+            heap,
+            "flow before the zero byte",
+            b"\x01\x00\x00\x01\x00\x01\x00\x01\x00\x01\x00\x09\x08\x01\x00\x01\x00\x00\x00\x00\x00\x00\x00\x00\x00\x00\x00\x00",
+            10,
+            0,
+        )?;
+        refused(
+            heap,
+            "the zero byte before the first index",
+            b"\x01\x00\x00\x01\x00\x01\x00\x01\x00\x01\x00\x09\x00\x01\x00\x02\x00\x00\x00\x00\x00\x00\x00\x00\x00\x00\x00\x00",
+            2,
+            13,
+        )?;
+        refused(
+            heap,
+            "the first index before the slack",
+            b"\x01\x00\x00\x01\x00\x01\x00\x01\x00\x01\x00\x09\x00\x00\x00\x02\x00\x00\x00\x01\x00\x00\x00\x00\x00\x00\x00\x00",
+            5,
+            14,
+        )?;
+        refused(
+            heap,
+            "cells before hops",
+            b"\x01\x00\x00\x01\x00\x01\x00\x01\x00\x01\x00\x09\x00\x00\x00\x01\x00\x00\x00\x01\x00\x01\x00\x00\x00\x00\x00\x00",
+            2,
+            16,
+        )?;
+        refused(
+            heap,
+            "the next index before the zero byte",
+            b"\x01\x00\x00\x01\x00\x01\x00\x01\x00\x01\x00\x09\x00\x00\x00\x01\x00\x00\x00\x00\x00\x01\x00\x01\x00\x00\x00\x00",
+            5,
+            20,
+        )?;
+        refused(
+            heap,
+            "fields before chains",
+            b"\x01\x00\x00\x01\x00\x02\x00\x01\x00\x01\x00\x00\x00\x00\x00\x01\x00\x00\x00\x00\x00\x00\x00\x00\x00\x01\x00\x00\x00\x00\x00\x00\x00\x00\x00\x00\x00\x01",
+            2,
+            34,
+        )?;
+        refused(
+            heap,
+            "the walk before the route",
+            b"\x01\x00\x00\x09\x00\x02\x00\x0a\x00\x01\x00\x01\x00\x01\x00\x01\x00\x01\x00\x01\x00\x01\x00\x01\x00\x01\x00\x00\x00\x00\x00\x0a\x00\x00\x00\x00\x00\x00\x00\x00\x00\x01\x00\x00\x00\x00\x00\x02\x00\x00\x00\x00\x00\x00\x00\x03\x01\x00\x00\x00\x00\x00\x00\x04\x02\x00\x00\x00\x00\x00\x00\x05\x03\x00\x00\x00\x00\x00\x00\x06\x04\x00\x00\x00\x00\x00\x00\x07\x05\x00\x00\x00\x00\x00\x00\x08\x06\x00\x00\x00\x00\x00\x00\x09\x07\x00\x00\x00\x00\x00\x00\x0a\x08\x00\x00\x00\x00\x00\x00\x00\x00\x00\x00\x00\x00\x00",
+            6,
+            10,
+        )?;
+        refused(
+            heap,
+            "an earlier route before a later walk",
+            b"\x01\x00\x00\x01\x00\x02\x00\x01\x00\x01\x00\x00\x00\x00\x00\x01\x00\x00\x00\x00\x00\x00\x00\x00\x00\x01\x00\x00\x00\x00\x00\x00\x07\x00\x00\x00\x00\x00",
+            8,
+            0,
+        )?;
+        refused(
+            heap,
+            "a length of the route before its ports",
+            b"\x01\x00\x00\x09\x00\x01\x00\x09\x00\x01\x00\x01\x00\x01\x00\x01\x00\x01\x00\x01\x00\x01\x00\x01\x00\x01\x00\x00\x00\x00\x00\x01\x00\x00\x00\x00\x00\x02\x63\x00\x00\x00\x00\x00\x00\x03\x01\x00\x00\x00\x00\x00\x00\x04\x02\x00\x00\x00\x00\x00\x00\x05\x03\x00\x00\x00\x00\x00\x00\x06\x04\x00\x00\x00\x00\x00\x00\x07\x05\x00\x00\x00\x00\x00\x00\x08\x06\x00\x00\x00\x00\x00\x00\x09\x07\x00\x00\x00\x00\x00\x00\x00\x08\x00\x00\x00\x00\x00",
+            7,
+            0,
+        )?;
+        refused(
+            heap,
+            "an unknown port before one twice",
+            b"\x01\x00\x00\x01\x00\x01\x00\x03\x00\x01\x00\x00\x00\x00\x00\x01\x00\x00\x00\x00\x00\x02\x00\x00\x00\x00\x00\x00\x00\x03\x00\x00\x00\x00\x00\x00\x00\x00\x05\x00\x00\x00\x00\x00",
+            8,
+            0,
+        )?;
+        refused(
+            heap,
+            "routes before records on no chain",
+            b"\x01\x00\x00\x01\x00\x01\x00\x02\x00\x01\x00\x00\x00\x00\x00\x01\x00\x00\x00\x00\x00\x00\x03\x00\x00\x00\x00\x00\x00\x00\x00\x00\x00\x00\x00\x00",
+            8,
+            0,
+        )
+    }
+
+    // Reads a file and writes it again.
+    fn rewritten(heap: Global, bytes: &[u8]) -> Result<Vec<u8>, Fail> {
+        let schedule = Schedule::read(heap, bytes)?;
+        let mut out = vec![in heap; 0u8; file_length(&schedule)]?;
+        write(&schedule, &mut out)?;
+        Ok(out)
+    }
+
+    #[test]
+    fn smallest_is_written_as_it_was_read(rt: LibcRuntime) -> Result<(), Fail> {
+        let out = rewritten(rt.alloc(), &SMALLEST)?;
+        check_eq(out.as_slice(), SMALLEST.as_slice())
+    }
+
+    #[test]
+    fn other_kinds_are_no_loads(rt: LibcRuntime) -> Result<(), Fail> {
+        let mut bytes = SMALLEST;
+        bytes[0] = 2;
+        check(Schedule::read(rt.alloc(), &bytes).is_ok())?;
+        match Schedule::read_load(rt.alloc(), &bytes) {
+            Ok(_) => Err(Fail::new("it was accepted")),
+            Err(refusal) => check_eq((refusal.number(), refusal.place()), (2, 0)),
+        }
+    }
+
+    #[test]
+    fn a_short_output_stays(rt: LibcRuntime) -> Result<(), Fail> {
+        let schedule = Schedule::read(rt.alloc(), &SMALLEST)?;
+        let mut out = [7u8; 27];
+        match write(&schedule, &mut out) {
+            Ok(_) => return Err(Fail::new("it was accepted")),
+            Err(refusal) => check_eq((refusal.number(), refusal.place()), (22, 0))?,
+        }
+        check_eq(out, [7u8; 27])
+    }
+}
