@@ -1,0 +1,6 @@
+mod Answering
+mod Joining
+mod Limited
+mod Noting
+mod Scanning
+mod Ways

@@ -1,0 +1,3 @@
+pub mod Ages
+pub mod Halves
+pub mod Making
