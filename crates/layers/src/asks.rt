@@ -5,7 +5,7 @@ ghost use Rattle.discipline.specs.Meaning.{waits-at};
 use discipline::Discipline;
 
 // Whether a cell waits at some port.
-pub fn waits<D: Discipline>(d: &D, cell: usize) -> bool
+pub(crate) fn waits<D: Discipline>(d: &D, cell: usize) -> bool
     ensures { λ r. ⌜ (D·Discipline .sound (now (d .entry)) → r ≡ isSome (D·Discipline .waiting (now (d .entry)) cell)) ⌝ }
 {
     match d.where_is(cell) {
@@ -16,7 +16,7 @@ pub fn waits<D: Discipline>(d: &D, cell: usize) -> bool
 }
 
 // Whether a cell waits at a port.
-pub fn waits_at<D: Discipline>(d: &D, port: usize, cell: usize) -> bool
+pub(crate) fn waits_at<D: Discipline>(d: &D, port: usize, cell: usize) -> bool
     ensures { λ r. ⌜ (D·Discipline .sound (now (d .entry)) → r ≡ waits-at (D·Discipline .waiting (now (d .entry))) port cell) ⌝ }
 {
     match d.where_is(cell) {

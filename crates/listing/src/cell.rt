@@ -45,7 +45,7 @@ fn write_route<S: Source>(text: &mut String, s: &S, cell: usize) -> fmt::Result
 }
 
 // Writes the line of a cell.
-pub fn write_cell<S: Source>(text: &mut String, s: &S, cell: usize) -> fmt::Result
+pub(crate) fn write_cell<S: Source>(text: &mut String, s: &S, cell: usize) -> fmt::Result
     ensures { λ r. ⌜ made r (λ _. string-bytes (now (text .exit)) ≡ string-bytes (now (text .entry)) ++ cell-line (content (now (s .entry)) .kind) cell (getD (content (now (s .entry)) .cells) cell no-scheduled)) ⌝ }
 {
     let fields = s.cell(cell);

@@ -17,13 +17,13 @@ pub struct Model {
 }
 
 impl Model {
-    pub fn new(heap: Global) -> Model {
+    pub(crate) fn new(heap: Global) -> Model {
         Model {
             waiters: Vec::new(heap),
         }
     }
 
-    pub fn arrive(
+    pub(crate) fn arrive(
         &mut self,
         port: usize,
         cell: usize,
@@ -43,7 +43,7 @@ impl Model {
         Ok(true)
     }
 
-    pub fn withdraw(&mut self, port: usize, cell: usize) -> bool {
+    pub(crate) fn withdraw(&mut self, port: usize, cell: usize) -> bool {
         match self.place(cell) {
             Some(at) => {
                 if at < self.waiters.len() && self.waiters[at].port == port {
@@ -57,13 +57,13 @@ impl Model {
         }
     }
 
-    pub fn pick(&mut self, port: usize, slot: u32) -> Option<usize> {
+    pub(crate) fn pick(&mut self, port: usize, slot: u32) -> Option<usize> {
         let cell = self.choice(port, slot)?;
         let _ = self.withdraw(port, cell);
         Some(cell)
     }
 
-    pub fn count(&self, port: usize) -> usize {
+    pub(crate) fn count(&self, port: usize) -> usize {
         let mut cells = 0usize;
         for w in self.waiters.iter() {
             if w.port == port {
@@ -123,12 +123,12 @@ pub struct Random {
 }
 
 impl Random {
-    pub fn new(seed: u32) -> Random {
+    pub(crate) fn new(seed: u32) -> Random {
         Random { state: seed }
     }
 
     // A number below `n`, or 0 where `n` is 0.
-    pub fn below(&mut self, n: u32) -> usize {
+    pub(crate) fn below(&mut self, n: u32) -> usize {
         self.state = self.state.wrapping_mul(1664525).wrapping_add(1013904223);
         if n == 0 {
             0
@@ -137,7 +137,7 @@ impl Random {
         }
     }
 
-    pub fn flow(&mut self) -> u8 {
+    pub(crate) fn flow(&mut self) -> u8 {
         (self.below(8) & 7) as u8
     }
 }
