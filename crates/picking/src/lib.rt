@@ -19,6 +19,7 @@ mod tests {
     use refusal::RefusalDebug;
     use std::test::*;
     use table::DueCell;
+    use table::Table;
     use urgent::LeastSlack;
     use urgent::LeastSlackDiscipline;
     use urgent::LeastSlackUrgent;
@@ -84,6 +85,14 @@ mod tests {
             cell: 0,
         }; 255];
         check(refused(LeastSlack::test(&few), 21))
+    }
+
+    // A tower is moved by value when a layer is put on it.
+    #[test]
+    fn values_are_small() -> Result<(), Fail> {
+        check(size_of::<Fifo>() <= 16384)?;
+        check(size_of::<Ageing<Classes<Fifo, Lifo>>>() <= 16384)?;
+        check(size_of::<LeastSlack<Table<'_, DueCell>>>() <= 16384)
     }
 
     fn refused(answer: Result<(), refusal::Refusal>, number: u8) -> bool {

@@ -68,9 +68,4 @@ mod tests {
         check(lifo.pick(1, 13)? == 3)?;
         check(lifo.pick(2, 13)? == 5)
     }
-
-    #[test]
-    fn values_are_small() -> Result<(), Fail> {
-        check(size_of::<Fifo>() <= 16384 && size_of::<Lifo>() <= 16384)
-    }
 }

@@ -11,7 +11,7 @@ pub(crate) fn place_of(entries: &[Entry], cell: usize) -> Option<usize>
     ensures { λ r. ⌜ Cases r (waiting-in (now (entries .entry)) cell ≡ None) (Stands (now (entries .entry)) cell) ⌝ }
 {
     for (i, e) in entries.iter().enumerate() {
-        if e.cell == cell {
+        if e.cell as usize == cell {
             return Some(i);
         }
     }
@@ -24,7 +24,7 @@ pub(crate) fn first_at(entries: &[Entry], port: usize) -> usize
     ensures { λ r. ⌜ Stands-at (now (entries .entry)) port (first-at (now (entries .entry)) port) r ⌝ }
 {
     for (i, e) in entries.iter().enumerate() {
-        if e.port == port {
+        if e.port as usize == port {
             return i;
         }
     }
@@ -37,7 +37,7 @@ pub(crate) fn last_at(entries: &[Entry], port: usize) -> usize
     ensures { λ r. ⌜ Stands-at (now (entries .entry)) port (last-at (now (entries .entry)) port) r ⌝ }
 {
     for i in (0..entries.len()).rev() {
-        if entries[i].port == port {
+        if entries[i].port as usize == port {
             return i;
         }
     }

@@ -6,7 +6,7 @@ ghost use Rattle.refusal.specs.Tests.{when};
 ghost use Rattle.refusal.specs.declared.Refusal.the-variants.{OutOfRange};
 ghost use Rattle.discipline.specs.Meaning.{count-at, stay-port};
 ghost use Rattle.discipline.specs.Calls.{arrive-test, withdraw-test, Answers, told};
-ghost use Rattle.queues.specs.Entries.{waiting-in, without};
+ghost use Rattle.queues.specs.Entries.{waiting-in, without, entry-of};
 ghost use Rattle.queues.specs.Lines.{queue};
 use crate::entry::Entry;
 use crate::line::LAST_PORT;
@@ -19,16 +19,28 @@ const LAST_FLOW: u8 = 7;
 
 impl Line {
     // A cell comes to wait: it stands at the end.
-    pub(crate) fn arrive(&mut self, e: Entry, flow: u8) -> Result<(), Refusal>
-        ensures { λ r. ⌜ Answers (arrive-test (waiting-in (queue (now (self .entry)))) (e .port) (e .cell) flow) (now (self .entry)) r (now (self .exit)) (λ _. queue (now (self .exit)) ≡ queue (now (self .entry)) ++ e ∷ []) ⌝ }
+    pub(crate) fn arrive(
+        &mut self,
+        port: usize,
+        cell: usize,
+        flow: u8,
+        slot: u32,
+        due: i64,
+    ) -> Result<(), Refusal>
+        ensures { λ r. ⌜ Answers (arrive-test (waiting-in (queue (now (self .entry)))) port cell flow) (now (self .entry)) r (now (self .exit)) (λ _. queue (now (self .exit)) ≡ queue (now (self .entry)) ++ entry-of cell port slot due ∷ []) ⌝ }
     {
-        if e.port > LAST_PORT || e.cell > LAST_CELL || flow > LAST_FLOW {
+        if port > LAST_PORT || cell > LAST_CELL || flow > LAST_FLOW {
             return Err(Refusal::OutOfRange);
         }
-        if self.place_of(e.cell).is_some() {
+        if self.place_of(cell).is_some() {
             return Err(Refusal::AlreadyWaits);
         }
-        self.append(e);
+        self.append(Entry {
+            cell: cell as u16,
+            port: port as u16,
+            slot,
+            due,
+        });
         Ok(())
     }
 
@@ -42,7 +54,7 @@ impl Line {
         let Some(at) = self.place_of(cell) else {
             return Err(Refusal::NotWaiting);
         };
-        if self.entries[at].port != port {
+        if self.entries[at].port as usize != port {
             return Err(Refusal::NotWaiting);
         }
         self.take_at(at);
@@ -67,7 +79,7 @@ impl Line {
             return Err(Refusal::OutOfRange);
         }
         match self.place_of(cell) {
-            Some(at) => Ok(Some(self.entries[at].port)),
+            Some(at) => Ok(Some(self.entries[at].port as usize)),
             None => Ok(None),
         }
     }

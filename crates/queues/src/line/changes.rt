@@ -37,7 +37,7 @@ impl Line {
     {
         let at = self.len;
         self.entries[at] = e;
-        self.counts[e.port] += 1;
+        self.counts[e.port as usize] += 1;
         self.len = at + 1;
     }
 
@@ -50,8 +50,8 @@ impl Line {
         let len = self.len;
         let e = self.entries[at];
         close_at(&mut self.entries, len, at);
-        self.counts[e.port] -= 1;
+        self.counts[e.port as usize] -= 1;
         self.len = len - 1;
-        e.cell
+        e.cell as usize
     }
 }
