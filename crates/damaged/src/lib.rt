@@ -1,5 +1,7 @@
 // Damaged schedule files, and the refusal that each must get. The files differ from a whole one in one way, and those
 // under `orders` in two.
+#![tactic(auto)]
+
 #[cfg(test)]
 mod tests {
     use layout::{file_length, write};

@@ -1,4 +1,6 @@
 // Queue disciplines behind one interface. docs/RULES.md says what a discipline means and what one owes.
+#![tactic(auto)]
+
 mod empty;
 mod interface;
 mod stay;

@@ -1,4 +1,6 @@
 // The schedule file: its content, its canonical bytes, and their writer. docs/FILES.md has the format.
+#![tactic(auto)]
+
 mod fields;
 mod kind;
 mod source;

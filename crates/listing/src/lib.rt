@@ -1,4 +1,6 @@
 // The content of a schedule file as text for a person.
+#![tactic(auto)]
+
 mod cell;
 
 ghost use Rattle.std.specs.Prelude.{◌≡◌, ◌++◌, IfOk, string_bytes, OnOk};

@@ -1,5 +1,7 @@
 // Theorems on cells that go through a network of ports: recording and replaying them, slot by slot. A theorem is the
 // contract of a function, and so is checked with it; specs/ has the definitions, and the functions have nothing to do.
+#![tactic(auto)]
+
 ghost use Rattle.network.specs.Bound.{Ends};
 ghost use Rattle.network.specs.OnTime.{OnTimeReplay};
 ghost use Rattle.network.specs.Slacks.{DueFixed, LastSlack};

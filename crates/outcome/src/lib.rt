@@ -1,4 +1,6 @@
 // What came of a recording that has ended: how each cell fared, and the recording as a schedule file.
+#![tactic(auto)]
+
 mod cell;
 mod file;
 

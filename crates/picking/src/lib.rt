@@ -1,4 +1,6 @@
 // Tests of the disciplines together: towers of layers, and the least-slack queue.
+#![tactic(auto)]
+
 #[cfg(test)]
 mod model;
 

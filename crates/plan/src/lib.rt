@@ -1,4 +1,6 @@
 // A plan under construction: ports with their delays, and cells with their routes. docs/RULES.md has the rules.
+#![tactic(auto)]
+
 mod cell;
 mod plan;
 mod route;

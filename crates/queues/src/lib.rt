@@ -1,4 +1,6 @@
 // First in, first out and last in, first out: two disciplines over one line of waiting cells. docs/RULES.md has the rules.
+#![tactic(auto)]
+
 mod entry;
 mod fifo;
 mod gap;

@@ -1,4 +1,5 @@
 // Tests of recordings: small loads whose schedules were worked out by hand, and refusals.
+#![tactic(auto)]
 
 #[cfg(test)]
 mod refusals;

@@ -1,4 +1,6 @@
 // Why a call is refused: one enum for the whole product. docs/REFUSALS.md has the table.
+#![tactic(auto)]
+
 ghost use Rattle.std.specs.Prelude.{◌≡◌, Some};
 ghost use Rattle.refusal.specs.Refusals.{number, layer, place, refused_line};
 ghost use Rattle.refusal.specs.declared.Refusal.TheVariants.{NoMemory};

@@ -1,6 +1,8 @@
 // Records a load: reads it from standard input, sends it under the queue discipline that it names, writes the recording
 // to recorded.sch, and prints how each cell fared and which ports were contested. A load that is refused is told by
 // number and place, and no file is touched.
+#![tactic(auto)]
+
 use anyhow::anyhow;
 use discipline::Discipline;
 use layers::{Ageing, Classes};

@@ -1,4 +1,6 @@
 // A schedule file as a value: reading it, and what it holds. docs/FILES.md has the format and the order of the tests.
+#![tactic(auto)]
+
 mod chain;
 mod gather;
 mod head;

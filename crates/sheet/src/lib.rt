@@ -1,5 +1,7 @@
 // The content of a schedule file that a run tells: an owned value of fixed size, so that a run writes its file without
 // memory of its own. docs/FILES.md has the format.
+#![tactic(auto)]
+
 mod row;
 mod run;
 mod sheet;

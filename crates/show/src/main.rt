@@ -1,5 +1,7 @@
 // Shows a schedule file: reads it from standard input, prints what is in it, and writes it anew to canonical.sch, its
 // hop records cell by cell. A file that is refused is told by number and place, and nothing is written.
+#![tactic(auto)]
+
 use anyhow::anyhow;
 use layout::{file_length, write};
 use listing::listing;

@@ -1,4 +1,6 @@
 // What came of a recording that has ended, as text for a person.
+#![tactic(auto)]
+
 ghost use Rattle.std.specs.Prelude.{◌≡◌, length, None, string_bytes};
 ghost use Rattle.std.specs.List.{flat_map};
 ghost use Rattle.refusal.specs.Tests.{tested};

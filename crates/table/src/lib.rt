@@ -1,4 +1,6 @@
 // An ordered table over a lent slice. It serves every kind of element that brings a total order; two kinds are here.
+#![tactic(auto)]
+
 mod due;
 mod flight;
 mod order;

@@ -1,4 +1,6 @@
 // The least-slack queue: an urgent discipline over the ordered table.
+#![tactic(auto)]
+
 mod queue;
 mod store;
 
