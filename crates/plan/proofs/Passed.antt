@@ -1,7 +1,7 @@
 -- What passes the tests fits the plan.
 use Rattle.std.proofs.Common.{◌≡◌, ℕ, ◌+◌, ◌-◌, ◌<◌, ◌≤◌, false, not, eqb, ltb, leb, List, length, get_or, drop, None, sym, refl, arith}
 use Rattle.std.proofs.lemmas.List.{get_or-drop, length-drop}
-use Rattle.std.proofs.lemmas.Bool.{and_parts, not_false, leb-true, leb-false, ltb-false, eqb_false}
+use Rattle.std.proofs.lemmas.Bool.{and_parts, not-false, leb-true, leb-false, ltb-false, eqb-false}
 use Rattle.refusal.specs.declared.Refusal.TheVariants.{BadRouteLength, UnknownPort, PortTwice, BadFlow, PlanFull}
 use Rattle.refusal.specs.Tests.{when, or_else}
 use Rattle.refusal.proofs.Ordered.{or_else_passes, when_passes}
@@ -11,12 +11,12 @@ use Rattle.plan.proofs.Anywhere.{false_at}
 -- a number within bounds
 pub within_parts : (low high x : ℕ) → not (within low high x) ≡ false → (low ≤ x) × (x ≤ high)
 within_parts low high x h =
-    let p = and_parts (leb low x) (leb x high) (not_false (within low high x) h) in
+    let p = and_parts (leb low x) (leb x high) (not-false (within low high x) h) in
     (leb-true low x p.0, leb-true x high p.1)
 
 not_had : (xs : List ℕ) (x i : ℕ) → has xs x ≡ false → i < length xs → get_or xs i 0 ≡ x → ⊥
 not_had xs x i h l =
-    eqb_false (get_or xs i 0) x (false_at (λ ys. has ys x) (λ y _. eqb y x) refl (λ y ys. refl) xs i h l)
+    eqb-false (get_or xs i 0) x (false_at (λ ys. has ys x) (λ y _. eqb y x) refl (λ y ys. refl) xs i h l)
 
 -- a route that passes the tests fits the plan
 pub route_fits : (n c : ℕ) (r : List ℕ) → route_test n c r ≡ None → Routed n r

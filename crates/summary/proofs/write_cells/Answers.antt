@@ -17,5 +17,5 @@ loop-cell-preserved c =
     let r = c.args.recording.now in
     let log = c.args.log.now in
     let i = c.loop-cell.cell in
-    let told = told_is (outcome_test r log i) (outcome_of r log i) c.in-ok-outcome.field-0 c.in-ok-outcome.ensures in
-    line_more r log i c.in-ok-outcome.field-0 (string_bytes c.args.text.now) {text' = string_bytes c.write-cell.new.text} c.loop-cell.invariant told c.in-ok-write-cell.ensures
+    let told = told_is (outcome_test r log i) (outcome_of r log i) c.in_ok-outcome.field-0 c.in_ok-outcome.ensures in
+    line_more r log i c.in_ok-outcome.field-0 (string_bytes c.args.text.now) {text' = string_bytes c.write_cell.new.text} c.loop-cell.invariant told c.in_ok-write_cell.ensures

@@ -29,9 +29,9 @@ returns c =
     let ps = contested_ports c.args.recording.now in
     let start = string_bytes c.args.text.now in
     let word : string_bytes c.write.new.self ≡ start ++ codes "contested" =
-    wrote c.write.result c.in-ok-or.field-0 c.in-ok-or.ensures c.write.ensures.bytes in
-    let found : c.in-ok-found.found ≡ nonempty ps = c.in-ok-found.ensures.0 in
-    let ports : string_bytes c.write-ports.new.text ≡ string_bytes c.write.new.self ++ flat_map port_part ps = c.in-ok-found.ensures.1 in
+    wrote c.write.result c.in_ok-or.field-0 c.in_ok-or.ensures c.write.ensures.bytes in
+    let found : c.in_ok-found.found ≡ nonempty ps = c.in_ok-found.ensures.0 in
+    let ports : string_bytes c.write_ports.new.text ≡ string_bytes c.write.new.self ++ flat_map port_part ps = c.in_ok-found.ensures.1 in
     let end : c.if-found.end.now ≡ end_of ps = elim c.if-found.branch [
       | then_Found w ↦ ap (λ x. x.now) w.end-is ∙ sym (cond_true (nonempty ps) [] (codes " none") (sym found ∙ w.if-found.true))
       | else-found w ↦ ap (λ x. x.now) w.end-is ∙ sym (cond-false (nonempty ps) [] (codes " none") (sym found ∙ w.if-found.false))

@@ -25,13 +25,13 @@ loop-port-preserved c =
     let r = c.args.recording.now in
     let i = c.loop-port.port-counter in
     let start = string_bytes c.args.text.now in
-    let flag = told_is (port_test (delays_of r.plan) i) (get_or r.contested i false) _ c.in-ok-contested.ensures in
+    let flag = told_is (port_test (delays_of r.plan) i) (get_or r.contested i false) _ c.in_ok-contested.ensures in
     let inv : (c.loop-port.found ≡ nonempty (flagged r.contested i)) × (string_bytes c.loop-port.text ≡ start ++ flat_map port_part (flagged r.contested i)) = c.loop-port.invariant in
     elim c.if-branch.branch [
       | then-branch+in-ok-or w ↦
           let more = flagged_more r.contested i (sym flag ∙ w.if-branch.true) in
           let piece : string_bytes w.write.new.self ≡ string_bytes c.loop-port.text ++ port_part i =
-          wrote w.write.result w.in-ok-or.field-0 w.in-ok-or.ensures w.write.ensures.bytes in (
+          wrote w.write.result w.in_ok-or.field-0 w.in_ok-or.ensures w.write.ensures.bytes in (
             w.found-is ∙ sym (nonempty_push (flagged r.contested i) i) ∙ ap nonempty (sym more),
             ap string_bytes w.text-is ∙ piece ∙ ap (λ t. t ++ port_part i) inv.1 ∙ flat_map_more port_part start (flagged r.contested i) i ∙ ap (λ ps. start ++ flat_map port_part ps) (sym more),
           )

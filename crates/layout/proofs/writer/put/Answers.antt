@@ -4,4 +4,4 @@ use Rattle.layout.proofs.writer.put.Goals as goal
 
 -- src/write.rt:23:1
 pub returns : goal.returns
-returns c = placed_from_part _ _ _ _ _ (omega arith) c.copy-from-slice.ensures.after
+returns c = placed_from_part _ _ _ _ _ (omega arith) c.copy_from_slice.ensures.after

@@ -7,15 +7,15 @@ use Rattle.layout.proofs.writer.put_cells.Goals as goal
 pub loop-c-init : goal.loop-c-init
 loop-c-init g c = (refl, sym (placed_none _ _))
 
-pub overflow-cast-first : goal.overflow-cast-first
-overflow-cast-first g c =
+pub overflow_cast-first : goal.overflow_cast-first
+overflow_cast-first g c =
     let fit = g.met.S.Source.fits c.args.s.now in
     let part = before_few _ fit c.loop-c.c (omega arith) in
     let few = total_few _ fit in
     search rules
 
-pub overflow-add-first : goal.overflow-add-first
-overflow-add-first g c =
+pub overflow_add-first : goal.overflow_add-first
+overflow_add-first g c =
     let fit = g.met.S.Source.fits c.args.s.now in
     let part = before_few _ fit c.loop-c.c (omega arith) in
     let few = total_few _ fit in

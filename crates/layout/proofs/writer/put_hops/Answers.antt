@@ -7,16 +7,16 @@ use Rattle.layout.proofs.writer.put_hops.Goals as goal
 pub loop-c-init : goal.loop-c-init
 loop-c-init g c = (refl, sym (placed_none _ _))
 
-pub put-route-requires : goal.put-route-requires
-put-route-requires g c =
+pub put_route-requires : goal.put_route-requires
+put_route-requires g c =
     let x = g.S.Source.content c.args.s.now in
     let fit = g.met.S.Source.fits c.args.s.now in
     let part = before_few x fit c.loop-c.c (omega arith) in
     let few = total_few x fit in
     (omega arith, omega arith)
 
-pub overflow-add-before : goal.overflow-add-before
-overflow-add-before g c =
+pub overflow_add-before : goal.overflow_add-before
+overflow_add-before g c =
     let fit = g.met.S.Source.fits c.args.s.now in
     let part = before_few _ fit c.loop-c.c (omega arith) in
     let few = total_few _ fit in
@@ -28,7 +28,7 @@ loop-c-preserved g c =
     let total = total_more x.cells c.loop-c.c (omega arith) in
     let part = before_few x (g.met.S.Source.fits c.args.s.now) c.loop-c.c (omega arith) in (
       omega arith,
-      hops_more x c.args.out.now c.loop-c.c c.loop-c.before (omega arith) (omega arith) c.loop-c.invariant.1 c.put-route.ensures c.loop-c.invariant.0,
+      hops_more x c.args.out.now c.loop-c.c c.loop-c.before (omega arith) (omega arith) c.loop-c.invariant.1 c.put_route.ensures c.loop-c.invariant.0,
     )
 
 pub returns : goal.returns

@@ -10,8 +10,8 @@ loop-p-init g c = sym (placed_none _ _)
 pub loop-p-preserved : goal.loop-p-preserved
 loop-p-preserved g c =
     ports_more (g.S.Source.content c.args.s.now) c.args.out.now c.loop-p.p (omega arith) c.requires c.loop-p.invariant
-    c.put.ensures c.bytes-for.ensures
-    (c.to-be-bytes.ensures ∙ ap word_bytes (c.from-delay.ensures ∙ c.delay.ensures))
+    c.put.ensures c.bytes_for.ensures
+    (c.to_be_bytes.ensures ∙ ap word_bytes (c.from-delay.ensures ∙ c.delay.ensures))
 
 pub returns : goal.returns
 returns g c =

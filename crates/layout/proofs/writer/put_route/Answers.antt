@@ -12,8 +12,8 @@ loop-position-preserved g c =
     let x = g.S.Source.content c.args.s.now in
     route_more (hops_of x c.args.cell) c.args.out.now (1 + c.args.before) (hop_start x c.args.before) c.loop-position.position
     c.hop.result (omega arith) (omega arith) c.loop-position.invariant c.put.ensures (omega arith)
-    (c.next-index-next.ensures ∙ ap (λ n. cond (ltb (c.loop-position.position + 1) n) (1 + c.args.before + c.loop-position.position + 1) 0) c.cell-hops.ensures.hops)
-    c.hop.ensures c.hop-record-record.ensures
+    (c.next_index-next.ensures ∙ ap (λ n. cond (ltb (c.loop-position.position + 1) n) (1 + c.args.before + c.loop-position.position + 1) 0) c.cell-hops.ensures.hops)
+    c.hop.ensures c.hop_record-record.ensures
 
 pub returns : goal.returns
 returns g c =

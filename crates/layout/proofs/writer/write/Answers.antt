@@ -11,18 +11,18 @@ put-requires g c =
     let head = ap length c.head.ensures in
     omega arith
 
-pub put-ports-requires : goal.put-ports-requires
-put-ports-requires g c =
+pub put_ports-requires : goal.put_ports-requires
+put_ports-requires g c =
     let size = canonical_size (g.S.Source.content c.args.s.now) in
     omega arith
 
-pub put-cells-requires : goal.put-cells-requires
-put-cells-requires g c =
+pub put_cells-requires : goal.put_cells-requires
+put_cells-requires g c =
     let size = canonical_size (g.S.Source.content c.args.s.now) in
     omega arith
 
-pub put-hops-requires : goal.put-hops-requires
-put-hops-requires g c =
+pub put_hops-requires : goal.put_hops-requires
+put_hops-requires g c =
     let size = canonical_size (g.S.Source.content c.args.s.now) in
     omega arith
 
@@ -31,9 +31,9 @@ returns g c =
     let x = g.S.Source.content c.args.s.now in
     let out = c.args.out.now in
     let all =
-    all_written x out (omega arith) (c.put.ensures ∙ ap (placed out 0) c.head.ensures) c.put-ports.ensures
-    c.put-cells.ensures c.put-hops.ensures in
-    record { written = (c.file-length-length.ensures, rw c.file-length-length.ensures all); reads-back = every_content_reads_back x (g.met.S.Source.fits c.args.s.now) }
+    all_written x out (omega arith) (c.put.ensures ∙ ap (placed out 0) c.head.ensures) c.put_ports.ensures
+    c.put_cells.ensures c.put_hops.ensures in
+    record { written = (c.file_length-length.ensures, rw c.file_length-length.ensures all); reads-back = every_content_reads_back x (g.met.S.Source.fits c.args.s.now) }
 
 pub returns-then-out-length : goal.returns-then-out-length
 returns-then-out-length g c =

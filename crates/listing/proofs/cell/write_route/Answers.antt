@@ -11,7 +11,7 @@ loop-position-preserved g c =
     let hs = (get_or x.cells c.args.cell no_scheduled).hops in
     let part : Hop → List ℕ = λ h. hop_part x.kind h.port h.sent in
     let i = c.loop-position.position in
-    let wrote : string_bytes c.write-hop.new.text ≡ string_bytes c.loop-position.text ++ part (get_or hs i no_hop) = search rules in
+    let wrote : string_bytes c.write_hop.new.text ≡ string_bytes c.loop-position.text ++ part (get_or hs i no_hop) = search rules in
     item_more hs i (string_bytes c.loop-position.text) _ part no_hop (omega arith) c.loop-position.invariant wrote
 
 pub returns : goal.returns

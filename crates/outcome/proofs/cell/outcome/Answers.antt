@@ -56,14 +56,14 @@ travel_is : (n c : ℕ) (o : Option ℕ) (t : ℕ) → c < n → Asked n c o (λ
 travel_is n c None t l a = absurd (omega arith)
 travel_is n c (Some x) t l a = a.1
 
-pub overflow-sub-last : goal.overflow-sub-last
-overflow-sub-last c =
+pub overflow_sub-last : goal.overflow_sub-last
+overflow_sub-last c =
     let e = ap length (ports_are c.in-Some.planned c.ports.ensures c.route.ensures c.in-Some.ensures.1) in
     let s = some c.plan-plan.result.now c.args.cell c.in-Some.ensures.0 in
     omega arith
 
-pub returns-in-err-sent : goal.returns-in-err-sent
-returns-in-err-sent c =
+pub returns-in_err-sent : goal.returns-in_err-sent
+returns-in_err-sent c =
     let r = c.args.recording.now in
     let log = c.args.log.now in
     let p = c.plan-plan.ensures in
@@ -72,7 +72,7 @@ returns-in-err-sent c =
     let at : length c.ports.result.now - 1 ≡ length (get_or (cells_of r.plan) c.args.cell no_cell).route - 1 =
     ap (λ x. length x - 1) (ports_are c.in-Some.planned c.ports.ensures c.route.ensures (c.in-Some.ensures.1 ∙ ap (λ x. get_or (cells_of x) c.args.cell no_cell) p)) in
     let e = err_from_is_err_and c.from-residual.result c.from-residual.ensures.1 in
-    let why = c.in-err-sent.ensures ∙ ap (λ h. told (sent_test (cells_of r.plan) log c.args.cell h) (sent_in (cells_of r.plan) log c.args.cell h)) at in
+    let why = c.in_err-sent.ensures ∙ ap (λ h. told (sent_test (cells_of r.plan) log c.args.cell h) (sent_in (cells_of r.plan) log c.args.cell h)) at in
     e.1 ∙ ap Err e.2 ∙ told_err (outcome_test r log c.args.cell) _ (outcome_of r log c.args.cell) _
     (why ∙ ap (λ t. told t (sent_in (cells_of r.plan) log c.args.cell (last r log c.args.cell ended l))) (asked r log c.args.cell ended l ∙ sym (tests r log c.args.cell ended l)))
 
@@ -86,13 +86,13 @@ returns c =
     let own = c.in-Some.ensures.1 ∙ ap (λ x. get_or (cells_of x) c.args.cell no_cell) p in
     let at : length c.ports.result.now - 1 ≡ length (get_or (cells_of r.plan) c.args.cell no_cell).route - 1 =
     ap (λ x. length x - 1) (ports_are c.in-Some.planned c.ports.ensures c.route.ensures own) in
-    let what = c.in-ok-sent.ensures ∙ ap (λ h. told (sent_test (cells_of r.plan) log c.args.cell h) (sent_in (cells_of r.plan) log c.args.cell h)) at
+    let what = c.in_ok-sent.ensures ∙ ap (λ h. told (sent_test (cells_of r.plan) log c.args.cell h) (sent_in (cells_of r.plan) log c.args.cell h)) at
     ∙ ap (λ t. told t (sent_in (cells_of r.plan) log c.args.cell (last r log c.args.cell ended l))) (asked r log c.args.cell ended l ∙ sym (tests r log c.args.cell ended l)) in
     let ok = told_ok (outcome_test r log c.args.cell) _ _ (outcome_of r log c.args.cell) what in
-    let exit = c.unwrap-or-exit.ensures ∙ ap (λ o. unwrap_or o 0) ok.0 in
+    let exit = c.unwrap_or-exit.ensures ∙ ap (λ o. unwrap_or o 0) ok.0 in
     let entry = c.entry-entry.ensures ∙ ap (λ x. x.entry) own in
-    let travels = c.unwrap-or-travel.ensures ∙ travel_is _ c.args.cell _ _ c.in-Some.ensures.0 c.least_travel.ensures
+    let travels = c.unwrap_or-travel.ensures ∙ travel_is _ c.args.cell _ _ c.in-Some.ensures.0 c.least_travel.ensures
     ∙ ap (λ x. travel (delays_of x) (get_or (cells_of x) c.args.cell no_cell).route) p in
-    let small : SFits w64 c.left-over.result = search rules in
-    let slack = to_z-of_z w64 c.left-over.result small ∙ c.left-over.ensures ∙ (λ i. pos (exit i) -ℤ pos (entry i) -ℤ pos (travels i)) in
+    let small : SFits w64 c.left_over.result = search rules in
+    let slack = to_z-of_z w64 c.left_over.result small ∙ c.left_over.ensures ∙ (λ i. pos (exit i) -ℤ pos (entry i) -ℤ pos (travels i)) in
     ap Ok (λ i. record { entry = entry i; exit = exit i; slack = slack i }) ∙ ok.1

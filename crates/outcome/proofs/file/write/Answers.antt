@@ -21,30 +21,30 @@ refused : (t : Option Refusal) (x : Refusal) (r : Recording) (log : List HopReco
 refused None x r log out a e h = absurd (let z : ◌≡◌ {A = ℕ} 0 1 = cc in omega arith)
 refused (Some y) x r log out a e h = let same : x ≡ y = cc in (h ∙ ap Err same, refl)
 
-pub returns-in-err-test-file : goal.returns-in-err-test-file
-returns-in-err-test-file c =
+pub returns-in_err-test_file : goal.returns-in_err-test_file
+returns-in_err-test_file c =
     let e = err_from_is_err_and c.from-residual.result c.from-residual.ensures.1 in
     refused (file_test c.args.recording.now c.args.log.now) _ c.args.recording.now c.args.log.now c.args.out.now c.from-residual.result
-    c.in-err-test-file.ensures (e.1 ∙ ap Err e.2)
+    c.in_err-test_file.ensures (e.1 ∙ ap Err e.2)
 
-pub returns-in-err-sheet : goal.returns-in-err-sheet
-returns-in-err-sheet c =
-    let pass = passed (file_test c.args.recording.now c.args.log.now) c.in-ok-test-file.ensures in
-    let fine = sheet_passes c.args.recording.now c.args.log.now pass c.slacks-of-slacks.result c.slots-of-slots.result c.slacks-of-slacks.ensures.long c.slots-of-slots.ensures.long in
-    absurd (none_some _ (ap (λ p. sheet_test (cells_of p) c.slacks-of-slacks.result c.slots-of-slots.result) c.plan.ensures ∙ fine) c.in-err-sheet.ensures.answers)
+pub returns-in_err-sheet : goal.returns-in_err-sheet
+returns-in_err-sheet c =
+    let pass = passed (file_test c.args.recording.now c.args.log.now) c.in_ok-test_file.ensures in
+    let fine = sheet_passes c.args.recording.now c.args.log.now pass c.slacks_of-slacks.result c.slots_of-slots.result c.slacks_of-slacks.ensures.long c.slots_of-slots.ensures.long in
+    absurd (none_some _ (ap (λ p. sheet_test (cells_of p) c.slacks_of-slacks.result c.slots_of-slots.result) c.plan.ensures ∙ fine) c.in_err-sheet.ensures.answers)
 
 pub returns : goal.returns
 returns c =
     let r = c.args.recording.now in
     let log = c.args.log.now in
-    let xs = c.slacks-of-slacks.result in
-    let ss = c.slots-of-slots.result in
-    let x = content_of c.in-ok-sheet.sheet in
-    let pass = passed (file_test r log) c.in-ok-test-file.ensures in
+    let xs = c.slacks_of-slacks.result in
+    let ss = c.slots_of-slots.result in
+    let x = content_of c.in_ok-sheet.sheet in
+    let pass = passed (file_test r log) c.in_ok-test_file.ensures in
     let T = subst (λ q. Tells Kind-recording q (delays_of r.plan) (cells_of r.plan) xs ss x) c.pile.ensures
-    (subst (λ p. Tells Kind-recording c.pile.result (delays_of p) (cells_of p) xs ss x) c.plan.ensures c.in-ok-sheet.ensures.answers.1) in
+    (subst (λ p. Tells Kind-recording c.pile.result (delays_of p) (cells_of p) xs ss x) c.plan.ensures c.in_ok-sheet.ensures.answers.1) in
     subst (λ t. Filed t r log c.args.out.now c.write.result c.write.new.out) (sym pass) (
       x,
-      recorded r log pass xs ss c.slacks-of-slacks.ensures.long c.slots-of-slots.ensures.long c.slacks-of-slacks.ensures.slacks c.slots-of-slots.ensures.slots x T,
+      recorded r log pass xs ss c.slacks_of-slacks.ensures.long c.slots_of-slots.ensures.long c.slacks_of-slacks.ensures.slacks c.slots_of-slots.ensures.slots x T,
       c.write.ensures.written,
     )

@@ -13,15 +13,15 @@ use Rattle.schedule.proofs.gather.gather_cell.Goals as goal
 pub walk-requires : goal.walk-requires
 walk-requires c = record { linked = linked _ c.requires.passed; known = c.requires.known; seen = c.requires.seen }
 
-pub returns-in-err-add-cell : goal.returns-in-err-add-cell
-returns-in-err-add-cell c =
-    let p = err_from_is_err_and c.from-residual-in-err-add-cell.result c.from-residual-in-err-add-cell.ensures.1 in
+pub returns-in_err-add_cell : goal.returns-in_err-add_cell
+returns-in_err-add_cell c =
+    let p = err_from_is_err_and c.from-residual-in_err-add_cell.result c.from-residual-in_err-add_cell.ensures.1 in
     let bs = c.args.image.now.bytes.now in
     let g = c.requires.gathered in
-    let w = c.in-ok-found.ensures in
+    let w = c.in_ok-found.ensures in
     let known : c.args.cell < cell_count bs = omega arith in
     let few : c.args.cell < 256 = omega arith in
-    let h = c.in-err-add-cell.ensures in
+    let h = c.in_err-add_cell.ensures in
     rw (p.1, p.2)
     (gather_stops bs c.requires.passed c.args.cell known few (delays_of c.args.plan.now) (cells_of c.args.plan.now) _ _ _
     g.ports.count g.cells (ap (λ r. r.flow) c.cell-raw.ensures) c.ports.ensures w.0 w.1 _ h.0)
@@ -30,18 +30,18 @@ pub returns : goal.returns
 returns c =
     let bs = c.args.image.now.bytes.now in
     let g = c.requires.gathered in
-    let w = c.in-ok-found.ensures in
+    let w = c.in_ok-found.ensures in
     let limits = c.args.image.now.limits in
     let cells_are = c.args.image.now.cells_read in
     let before = c.requires.known in
     let known : c.args.cell < cell_count bs = omega arith in
     let few : c.args.cell < 256 = omega arith in
     let raw = c.cell-raw.ensures in
-    let h = c.in-ok-add-cell.ensures in
-    let small : SFits w32 c.cast-signed-slack.result = search rules in
-    let same : to_z w32 (of_z w32 c.cast-signed-slack.result) ≡ c.cast-signed-slack.result = to_z-of_z w32 _ small in
-    let m : Marks = record { slack = to_z w32 (of_z w32 c.cast-signed-slack.result); sent = c.sent-sent.result } in
-    let slack-is : m.slack ≡ slack_at bs c.args.cell = same ∙ c.cast-signed-slack.ensures ∙ ap (λ r. to_z w32 r.slack) raw in
+    let h = c.in_ok-add_cell.ensures in
+    let small : SFits w32 c.cast_signed-slack.result = search rules in
+    let same : to_z w32 (of_z w32 c.cast_signed-slack.result) ≡ c.cast_signed-slack.result = to_z-of_z w32 _ small in
+    let m : Marks = record { slack = to_z w32 (of_z w32 c.cast_signed-slack.result); sent = c.sent-sent.result } in
+    let slack-is : m.slack ≡ slack_at bs c.args.cell = same ∙ c.cast_signed-slack.ensures ∙ ap (λ r. to_z w32 r.slack) raw in
     let fits : SFits w32 m.slack = subst (SFits w32) (sym same) small in
     let passes = gather_passes bs c.requires.passed c.args.cell known few (delays_of c.args.plan.now) (cells_of c.args.plan.now) _ _ _
     g.ports.count g.cells (ap (λ r. r.flow) raw) c.ports.ensures w.0 w.1 h.0 in
@@ -51,5 +51,5 @@ returns c =
       passes,
       subst (λ n. Seen c.walk.new.seen (reached bs n)) (sym (add-one c.args.cell)) w.2,
       w.3,
-      gathered_as bs c.args.image.now.head.kind (c.args.cell + 1) h.2.delays h.2.cells c.in-ok-push.ensures.items done,
+      gathered_as bs c.args.image.now.head.kind (c.args.cell + 1) h.2.delays h.2.cells c.in_ok-push.ensures.items done,
     )

@@ -20,25 +20,25 @@ loop-cell-init c = (
 
 pub loop-cell-preserved : goal.loop-cell-preserved
 loop-cell-preserved c =
-    let h = c.in-ok-gather-cell.ensures in
+    let h = c.in_ok-gather_cell.ensures in
     (each_below_more (chain_test c.args.image.now.bytes.now) _ c.loop-cell.invariant.0 h.0, h.1, h.2, h.3)
 
-pub returns-in-err-gather-cell : goal.returns-in-err-gather-cell
-returns-in-err-gather-cell c =
+pub returns-in_err-gather_cell : goal.returns-in_err-gather_cell
+returns-in_err-gather_cell c =
     let p = err_from_is_err_and c.from-residual.result c.from-residual.ensures.1 in
     let bs = c.args.image.now.bytes.now in
     let in' : c.loop-cell.cell < cell_count bs = omega arith in
     rw (p.1, p.2)
     (stops_at_once (each_below (cell_count bs) (chain_test bs)) (each_below (hop_count bs) (λ k. unreached_test bs (k + 1))) _
-    (stops_within (chain_test bs) c.loop-cell.cell (cell_count bs) _ in' c.loop-cell.invariant.0 c.in-err-gather-cell.ensures))
+    (stops_within (chain_test bs) c.loop-cell.cell (cell_count bs) _ in' c.loop-cell.invariant.0 c.in_err-gather_cell.ensures))
 
-pub returns-in-err-test-reached : goal.returns-in-err-test-reached
-returns-in-err-test-reached c =
-    let p = err_from_is_err_and c.from-residual-in-err-test-reached.result c.from-residual-in-err-test-reached.ensures.1 in
+pub returns-in_err-test_reached : goal.returns-in_err-test_reached
+returns-in_err-test_reached c =
+    let p = err_from_is_err_and c.from-residual-in_err-test_reached.result c.from-residual-in_err-test_reached.ensures.1 in
     let bs = c.args.image.now.bytes.now in
     let e : c.loop-cell.cell ≡ cell_count bs = omega arith in
     let passed : each_below (cell_count bs) (chain_test bs) ≡ None = subst (λ n. each_below n (chain_test bs) ≡ None) e c.loop-cell.invariant.0 in
-    let failed = tested_refuses _ _ c.in-err-test-reached.ensures in
+    let failed = tested_refuses _ _ c.in_err-test_reached.ensures in
     rw (p.1, p.2)
     (stops_later (each_below (cell_count bs) (chain_test bs)) (each_below (hop_count bs) (λ k. unreached_test bs (k + 1))) _ passed
     (inr (rw c.args.image.now.hops_read at failed)))
@@ -50,7 +50,7 @@ returns c =
     let passed : each_below (cell_count bs) (chain_test bs) ≡ None = subst (λ n. each_below n (chain_test bs) ≡ None) e c.loop-cell.invariant.0 in
     let hops_are = c.args.image.now.hops_read in
     let reached-all : each_below (hop_count bs) (λ k. unreached_test bs (k + 1)) ≡ None =
-    subst (λ n. each_below n (λ k. unreached_test bs (k + 1)) ≡ None) hops_are (tested_passes _ _ c.in-ok-test-reached.ensures) in (
+    subst (λ n. each_below n (λ k. unreached_test bs (k + 1)) ≡ None) hops_are (tested_passes _ _ c.in_ok-test_reached.ensures) in (
       or_else_after _ _ passed ∙ reached-all,
       subst (λ n. Gathered bs c.args.image.now.head.kind n (delays_of c.loop-cell.plan) (cells_of c.loop-cell.plan) (vec_items c.loop-cell.marks)) e c.loop-cell.invariant.3,
     )

@@ -16,17 +16,17 @@ loop-port-init c =
 pub loop-port-preserved : goal.loop-port-preserved
 loop-port-preserved c =
     let bs = c.args.image.now.bytes.now in
-    let h = c.in-ok-add-port.ensures in (
+    let h = c.in_ok-add_port.ensures in (
       subst (λ ds. Ported bs (c.loop-port.port + 1) ds) (sym h.2.delays)
           (ported_more bs c.loop-port.port c.delay.result (delays_of c.loop-port.plan) c.delay.ensures c.loop-port.invariant.0),
       h.2.cells ∙ c.loop-port.invariant.1,
     )
 
-pub returns-in-err-add-port : goal.returns-in-err-add-port
-returns-in-err-add-port c =
+pub returns-in_err-add_port : goal.returns-in_err-add_port
+returns-in_err-add_port c =
     let p = err_from_is_err_and c.from-residual.result c.from-residual.ensures.1 in
     let bs = c.args.image.now.bytes.now in
-    let h = c.in-err-add-port.ensures in
+    let h = c.in_err-add_port.ensures in
     let in' : c.loop-port.port < port_count bs = omega arith in
     let f = delay_fits bs c.requires c.loop-port.port in' in
     let e = c.delay.ensures in

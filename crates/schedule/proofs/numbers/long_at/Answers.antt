@@ -3,4 +3,4 @@ use Rattle.schedule.proofs.numbers.long_at.Goals as goal
 
 pub returns : goal.returns
 unfolding long
-returns c = c.from-be-bytes.ensures
+returns c = c.from_be_bytes.ensures

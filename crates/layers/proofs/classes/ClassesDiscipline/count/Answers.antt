@@ -21,5 +21,5 @@ returns-in-Ok-count g c s =
     let fews = passing_few 256 (waits_at_lem w p) in
     let x = a.1 in
     let y = b.1 in
-    let same : c.saturating-add.result ≡ count_at (joined v w) p = omega arith in
+    let same : c.saturating_add.result ≡ count_at (joined v w) p = omega arith in
     ap (λ n. Ok n) same ∙ sym (ap (λ q. told (when q OutOfRange) (count_at (joined v w) p)) a.0)

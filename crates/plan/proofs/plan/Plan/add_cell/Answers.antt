@@ -14,35 +14,35 @@ use Rattle.plan.proofs.plan.Plan.add_cell.Goals as goal
 abbrev tests_of : Plan → ℕ → List ℕ → Option Refusal
 tests_of p flow r = cell_test (length (delays_of p)) (length (cells_of p)) flow r
 
-pub returns-in-err-test-cell : goal.returns-in-err-test-cell
-returns-in-err-test-cell c =
+pub returns-in_err-test_cell : goal.returns-in_err-test_cell
+returns-in_err-test_cell c =
     let e = err_from_is_err_and c.from-residual.result c.from-residual.ensures.1 in
-    let first = tested_refuses (tests_of c.args.self.now c.args.flow c.args.route.now) _ c.in-err-test-cell.ensures in
+    let first = tested_refuses (tests_of c.args.self.now c.args.flow c.args.route.now) _ c.in_err-test_cell.ensures in
     rw (e.1, e.2, first) (refl, record { delays = refl; cells = refl })
 
-pub invariant-of-self : goal.invariant-of-self
-invariant-of-self c =
+pub invariant_of-self : goal.invariant_of-self
+invariant_of-self c =
     let p = c.args.self.now in
     let n = length (delays_of p) in
-    let passed = tested_passes (tests_of p c.args.flow c.args.route.now) _ c.in-ok-test-cell.ensures in
+    let passed = tested_passes (tests_of p c.args.flow c.args.route.now) _ c.in_ok-test_cell.ensures in
     let fits = cell_fits n (length (cells_of p)) c.args.entry c.args.flow c.args.route.now (omega arith) passed in
     let kept : Cells (vec_len p.delays) (map planned (vec_items c.push.new.self)) =
     rw (c.push.ensures.items, map_pushed, count_ports p)
     (each_pushed (Fitting n) no_cell (cells_of p) _ _ (cells_fit p) (subst (Fitting n) (sym c.new.ensures) fits.0)) in
     (p.few_ports, (omega (arith, fits.1, count_cells p), (p.delays_fit, (∣ kept ∣₁, tt))))
 
-pub returns-in-err-push : goal.returns-in-err-push
-returns-in-err-push c =
+pub returns-in_err-push : goal.returns-in_err-push
+returns-in_err-push c =
     let p = c.args.self.now in
-    let passed = tested_passes (tests_of p c.args.flow c.args.route.now) _ c.in-ok-test-cell.ensures in
-    let same = ap (map planned) {x = vec_items c.push.new.self} {y = vec_items p.cells} c.in-err-push.ensures.items in
-    let e = err_from_is_err_and c.from-residual-in-err-push.result c.from-residual-in-err-push.ensures.1 in
+    let passed = tested_passes (tests_of p c.args.flow c.args.route.now) _ c.in_ok-test_cell.ensures in
+    let same = ap (map planned) {x = vec_items c.push.new.self} {y = vec_items p.cells} c.in_err-push.ensures.items in
+    let e = err_from_is_err_and c.from-residual-in_err-push.result c.from-residual-in_err-push.ensures.1 in
     rw (e.1, e.2, passed) (refl, record { delays = refl; cells = same })
 
 pub returns : goal.returns
 returns c =
     let p = c.args.self.now in
-    let passed = tested_passes (tests_of p c.args.flow c.args.route.now) _ c.in-ok-test-cell.ensures in
-    let pushed = ap (map planned) {x = vec_items c.push.new.self} {y = vec_items p.cells ++ c.new.result ∷ []} c.in-ok-push.ensures.items in
+    let passed = tested_passes (tests_of p c.args.flow c.args.route.now) _ c.in_ok-test_cell.ensures in
+    let pushed = ap (map planned) {x = vec_items c.push.new.self} {y = vec_items p.cells ++ c.new.result ∷ []} c.in_ok-push.ensures.items in
     let more = map_push planned (vec_items p.cells) c.new.result in
     (passed, c.cells-cell.ensures, record { delays = refl; cells = pushed ∙ more ∙ ap (λ x. cells_of p ++ x ∷ []) c.new.ensures })

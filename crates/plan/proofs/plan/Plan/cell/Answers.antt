@@ -1,6 +1,6 @@
 use Rattle.std.proofs.Common.{rules}
-use Rattle.std.proofs.lemmas.List.{get_or_map, length-map}
+use Rattle.std.proofs.lemmas.List.{get_or-map, length-map}
 use Rattle.plan.proofs.plan.Plan.cell.Goals as goal
 
 pub returns : goal.returns
-returns c = search (rules, get_or_map, length-map)
+returns c = search (rules, get_or-map, length-map)

@@ -2,6 +2,6 @@ use Rattle.std.proofs.Common.{arith}
 use Rattle.std.proofs.lemmas.List.{length-map}
 use Rattle.plan.proofs.plan.Plan.new.Goals as goal
 
-pub invariant-of-result : goal.invariant-of-result
-invariant-of-result c =
+pub invariant_of-result : goal.invariant_of-result
+invariant_of-result c =
     (omega arith, (omega arith, ((λ p l. absurd (omega arith)), (∣ (λ k l. absurd (omega (arith, simp length-map at l))) ∣₁, tt))))

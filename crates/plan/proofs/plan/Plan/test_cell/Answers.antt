@@ -10,8 +10,8 @@ use Rattle.plan.proofs.plan.Plan.test_cell.Goals as goal
 first : (o q : Option Refusal) (e : Refusal) → Err e ≡ tested o → Err e ≡ tested (or_else o q)
 first o q e h = rw (tested_refuses o e h)
 
-pub returns-in-err-test-route : goal.returns-in-err-test-route
-returns-in-err-test-route c =
+pub returns-in_err-test_route : goal.returns-in_err-test_route
+returns-in_err-test_route c =
     let e = err_from_is_err_and c.from-residual.result c.from-residual.ensures.1 in
-    e.1 ∙ ap Err e.2 ∙ first _ _ _ c.in-err-test-route.ensures
+    e.1 ∙ ap Err e.2 ∙ first _ _ _ c.in_err-test_route.ensures
     ∙ ap₂ (λ n k. tested (cell_test n k c.args.flow c.args.route.now)) c.ports.ensures c.cells-cell.ensures

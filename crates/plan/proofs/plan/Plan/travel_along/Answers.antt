@@ -1,5 +1,5 @@
 use Rattle.std.proofs.Common.{◌≡◌, ℕ, ◌-◌, ◌<◌, ◌≤◌, List, length, get_or, take, sum_by, sym, ap, ◌∙◌, arith}
-use Rattle.std.proofs.lemmas.List.{get_or_read, get_or_take, length-take, take_all}
+use Rattle.std.proofs.lemmas.List.{get_or_read, get_or-take, length-take, take_all}
 use Rattle.std.proofs.lemmas.List.Sums.{sum_by_more, sum-map}
 use Rattle.plan.specs.Cells.{Delays, Routed}
 use Rattle.plan.specs.Plans.{delays_of}
@@ -9,7 +9,7 @@ use Rattle.plan.proofs.plan.Plan.travel_along.Goals as goal
 port_known : (n : ℕ) (r : List ℕ) (m i port : ℕ) → Routed n r → i < length (take m r) → port ≡ get_or (take m r) i 0 → (port < n) × (i < 8)
 port_known n r m i port h l e =
     let k : i < m = omega (arith, length-take m r) in
-    (omega (arith, length-take m r, get_or_take m r i 0 k, h.2 i (omega (arith, length-take m r))), omega (arith, length-take m r, h.1))
+    (omega (arith, length-take m r, get_or-take m r i 0 k, h.2 i (omega (arith, length-take m r))), omega (arith, length-take m r, h.1))
 
 delay_read : (ds : List ℕ) (port d : ℕ) → Delays ds → port < length ds → d ≡ get_or ds port d → (d ≡ get_or ds port 0) × (d ≤ 255)
 delay_read ds port d h l e =
@@ -20,8 +20,8 @@ pub index-requires : goal.index-requires
 index-requires c =
     omega (arith, (port_known _ _ _ _ _ c.requires c.loop-port-test.true c.from.ensures).0, count_ports c.args.self.now)
 
-pub overflow-add-slots : goal.overflow-add-slots
-overflow-add-slots c =
+pub overflow_add-slots : goal.overflow_add-slots
+overflow_add-slots c =
     let known = port_known _ _ _ _ _ c.requires c.loop-port-test.true c.from.ensures in
     let d = delay_read _ _ _ (delays_fit_lem c.args.self.now) known.0 c.index.ensures in
     omega (arith, known.1, d.1, c.loop-port.invariant.1)

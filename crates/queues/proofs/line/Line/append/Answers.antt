@@ -9,16 +9,16 @@ bounds-self-at c =
     let wide : length l.counts ≡ 32 = search rules in
     room l long wide c.args.e c.requires.cell c.requires.port c.requires.new
 
-pub overflow-add-self : goal.overflow-add-self
-overflow-add-self c =
+pub overflow_add-self : goal.overflow_add-self
+overflow_add-self c =
     let l = c.args.self.now in
     let long : length l.entries ≡ 256 = search rules in
     let wide : length l.counts ≡ 32 = search rules in
     let small : get_or l.counts c.args.e.port 0 ≤ 256 = count_few l long wide c.args.e.port (omega arith) in
     omega arith
 
-pub invariant-of-self : goal.invariant-of-self
-invariant-of-self c =
+pub invariant_of-self : goal.invariant_of-self
+invariant_of-self c =
     let l = c.args.self.now in
     let long : length l.entries ≡ 256 = search rules in
     let wide : length l.counts ≡ 32 = search rules in

@@ -13,5 +13,5 @@ pub returns : goal.returns
 returns c =
     let l = c.args.self.now in
     let p = c.args.port in
-    ap (λ n. Ok n) (sym (count_is l p c.if-port-gt-LAST-PORT.false))
-    ∙ sym (ap (λ b. told (when b OutOfRange) (count_at (waiting_in (queue l)) p)) (le-ltb 31 p c.if-port-gt-LAST-PORT.false))
+    ap (λ n. Ok n) (sym (count_is l p c.if-port-gt-LAST_PORT.false))
+    ∙ sym (ap (λ b. told (when b OutOfRange) (count_at (waiting_in (queue l)) p)) (le-ltb 31 p c.if-port-gt-LAST_PORT.false))

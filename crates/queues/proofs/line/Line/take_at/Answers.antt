@@ -7,8 +7,8 @@ use Rattle.queues.proofs.Kept.{gone_port, some_there, gone_is, gone_proper, gone
 use Rattle.queues.proofs.Placed.{inside}
 use Rattle.queues.proofs.line.Line.take_at.Goals as goal
 
-pub offset-bounds-self-at : goal.offset-bounds-self-at
-offset-bounds-self-at c =
+pub offset_bounds-self-at : goal.offset_bounds-self-at
+offset_bounds-self-at c =
     let l = c.args.self.now in
     let a = inside l c.args.at c.requires in
     let f = l.few in
@@ -17,8 +17,8 @@ offset-bounds-self-at c =
 port_small : (l : Line) (at : ℕ) → length l.entries ≡ 256 → length l.counts ≡ 32 → at < length (queue l) → (get_or l.entries at no_entry).port < 32
 port_small l at long wide h = gone_port l long wide at (inside l at h)
 
-pub offset-bounds-self-e : goal.offset-bounds-self-e
-offset-bounds-self-e c =
+pub offset_bounds-self-e : goal.offset_bounds-self-e
+offset_bounds-self-e c =
     let l = c.args.self.now in
     let long : length l.entries ≡ 256 = search rules in
     let wide : length l.counts ≡ 32 = search rules in
@@ -32,8 +32,8 @@ bounds-self-e c =
     let wide : length l.counts ≡ 32 = search rules in
     port_small l c.args.at long wide c.requires
 
-pub overflow-sub-self : goal.overflow-sub-self
-overflow-sub-self c =
+pub overflow_sub-self : goal.overflow_sub-self
+overflow_sub-self c =
     let l = c.args.self.now in
     let long : length l.entries ≡ 256 = search rules in
     let wide : length l.counts ≡ 32 = search rules in
@@ -46,8 +46,8 @@ bounds-self-e-2 c =
     let wide : length l.counts ≡ 32 = search rules in
     port_small l c.args.at long wide c.requires
 
-pub invariant-of-self : goal.invariant-of-self
-invariant-of-self c =
+pub invariant_of-self : goal.invariant_of-self
+invariant_of-self c =
     let l = c.args.self.now in
     let long : length l.entries ≡ 256 = search rules in
     let wide : length l.counts ≡ 32 = search rules in
@@ -55,9 +55,9 @@ invariant-of-self c =
     let in' = inside l c.args.at c.requires in (
       omega arith,
       (
-        gone_proper l long wide c.args.at in' c.close-at.new.places c.close-at.ensures,
+        gone_proper l long wide c.args.at in' c.close_at.new.places c.close_at.ensures,
         (
-          gone_counted l long wide c.args.at in' c.close-at.new.places c.close-at.ensures,
+          gone_counted l long wide c.args.at in' c.close_at.new.places c.close_at.ensures,
           tt,
         ),
       ),
@@ -71,5 +71,5 @@ returns c =
     let in' = inside l c.args.at c.requires in
     record {
       cell = sym (ap (λ x. x.cell) (get_or_take l.len l.entries c.args.at no_entry in'));
-      left = gone_is l long wide c.args.at in' c.close-at.new.places c.close-at.ensures;
+      left = gone_is l long wide c.args.at in' c.close_at.new.places c.close_at.ensures;
     }

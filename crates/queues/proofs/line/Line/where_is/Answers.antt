@@ -9,8 +9,8 @@ use Rattle.queues.specs.Lines.{queue}
 use Rattle.queues.proofs.Placed.{inside, placed}
 use Rattle.queues.proofs.line.Line.where_is.Goals as goal
 
-pub offset-bounds-self-at : goal.offset-bounds-self-at
-offset-bounds-self-at c =
+pub offset_bounds-self-at : goal.offset_bounds-self-at
+offset_bounds-self-at c =
     let l = c.args.self.now in
     let few = l.few in
     let a = inside l c.in-Some.at c.in-Some.ensures.0 in
@@ -19,5 +19,5 @@ offset-bounds-self-at c =
 pub returns-in-Some : goal.returns-in-Some
 returns-in-Some c =
     let l = c.args.self.now in
-    sym (ap (λ b. told (when b OutOfRange) (stay_port (waiting_in (queue l) c.args.cell))) (le-ltb 255 c.args.cell c.if-cell-gt-LAST-CELL.false)
+    sym (ap (λ b. told (when b OutOfRange) (stay_port (waiting_in (queue l) c.args.cell))) (le-ltb 255 c.args.cell c.if-cell-gt-LAST_CELL.false)
     ∙ ap (λ o. Ok (stay_port o)) (placed l c.args.cell c.in-Some.at c.in-Some.ensures))

@@ -9,8 +9,8 @@ use Rattle.queues.specs.Passed.{withdraw_last}
 use Rattle.queues.proofs.Placed.{inside, placed}
 use Rattle.queues.proofs.line.Line.withdraw.Goals as goal
 
-pub offset-bounds-self-at : goal.offset-bounds-self-at
-offset-bounds-self-at c =
+pub offset_bounds-self-at : goal.offset_bounds-self-at
+offset_bounds-self-at c =
     let l = c.args.self.now in
     let few = l.few in
     let a = inside l c.in-Some.at c.in-Some.ensures.0 in
@@ -21,7 +21,7 @@ returns-then-self-at c =
     let l = c.args.self.now in
     let p = c.args.port in
     let elsewhere = ap (stays_at p) (placed l c.args.cell c.in-Some.at c.in-Some.ensures) ∙ ne_eqb (get_or l.entries c.in-Some.at no_entry).port p c.if-self-at.true in (
-      withdraw_last (waiting_in (queue l)) p c.args.cell c.if-port-gt-LAST-PORT.false c.if-cell-gt-LAST-CELL.false
+      withdraw_last (waiting_in (queue l)) p c.args.cell c.if-port-gt-LAST_PORT.false c.if-cell-gt-LAST_CELL.false
           ∙ ap (λ b. when (not b) NotWaiting) elsewhere,
       refl {a = l},
     )
@@ -31,7 +31,7 @@ returns c =
     let l = c.args.self.now in
     let p = c.args.port in
     let here = ap (stays_at p) (placed l c.args.cell c.in-Some.at c.in-Some.ensures) ∙ eq-eqb (get_or l.entries c.in-Some.at no_entry).port p c.if-self-at.false in (
-      withdraw_last (waiting_in (queue l)) p c.args.cell c.if-port-gt-LAST-PORT.false c.if-cell-gt-LAST-CELL.false
+      withdraw_last (waiting_in (queue l)) p c.args.cell c.if-port-gt-LAST_PORT.false c.if-cell-gt-LAST_CELL.false
           ∙ ap (λ b. when (not b) NotWaiting) here,
-      c.take-at.ensures.left ∙ ap (without (queue l)) (c.take-at.ensures.cell ∙ c.in-Some.ensures.1),
+      c.take_at.ensures.left ∙ ap (without (queue l)) (c.take_at.ensures.cell ∙ c.in-Some.ensures.1),
     )

@@ -17,13 +17,13 @@ returns-in-Some g c =
           c.in-Some.standing c.in-Some.ensures c.arrive.result c.arrive.new.self c.arrive.ensures;
     }
 
-pub returns-in-default : goal.returns-in-default
-returns-in-default g c =
+pub returns-in_default : goal.returns-in_default
+returns-in_default g c =
     let h = c.happen.ensures in
     record {
       same = h.kept;
       arrives = λ log I l p. absurd (
           stands_somewhere g.D.Discipline.waiting g.D.Discipline.sound g.D.Discipline.arrives g.D.Discipline.picks
           c.args.self.now c.happen.new.self c.args.cell l h.kept h.records h.contested h.gone log c.args.queue.now I p
-          c.in-default.ensures);
+          c.in_default.ensures);
     }

@@ -38,7 +38,7 @@ loop-cell-preserved g c = (
   c.in-Some.ensures.same ∙ c.loop-cell.invariant.1,
   c.in-Some.ensures.long ∙ c.loop-cell.invariant.2,
   landed_more _ _ _ _ _ (laws g) c.args.self.now c.args.queue.now (elements c.args.flights.now) c.loop-cell.self c.loop-cell.invariant.0
-      c.loop-cell.queue (elements c.loop-cell.flights) (elements c.take-landing.new.flights) c.loop-cell.invariant.3
+      c.loop-cell.queue (elements c.loop-cell.flights) (elements c.take_landing.new.flights) c.loop-cell.invariant.3
       c.in-Some.cell c.in-Some.ensures.taken c.enter.new.self c.enter.new.queue c.enter.ensures.arrives,
 )
 
@@ -46,7 +46,7 @@ pub returns : goal.returns
 returns g c = record {
   same = c.loop-cell.invariant.0;
   enters = landed_end _ _ _ _ _ (laws g) c.args.self.now c.args.queue.now (elements c.args.flights.now) c.loop-cell.self c.loop-cell.invariant.0
-      c.loop-cell.queue (elements c.loop-cell.flights) (elements c.take-landing.new.flights) c.loop-cell.invariant.3 c.in-default.ensures.taken;
-  named = c.in-default.ensures.same ∙ c.loop-cell.invariant.1;
-  long = c.in-default.ensures.long ∙ c.loop-cell.invariant.2;
+      c.loop-cell.queue (elements c.loop-cell.flights) (elements c.take_landing.new.flights) c.loop-cell.invariant.3 c.in_default.ensures.taken;
+  named = c.in_default.ensures.same ∙ c.loop-cell.invariant.1;
+  long = c.in_default.ensures.long ∙ c.loop-cell.invariant.2;
 }

@@ -3,8 +3,8 @@ use Rattle.plan.specs.Plans.{cells_of}
 use Rattle.run.proofs.Records.{offsets_set}
 use Rattle.run.proofs.recording.Recording.happen.Goals as goal
 
-pub invariant-of-self : goal.invariant-of-self
-invariant-of-self c =
+pub invariant_of-self : goal.invariant_of-self
+invariant_of-self c =
     let self = c.args.self.now in
     let wide = self.wide in (
       length-set self.records c.args.cell c.happen.new.self ∙ self.wide,

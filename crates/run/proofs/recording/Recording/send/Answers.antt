@@ -50,12 +50,12 @@ returns-else-picked c =
       sent = record {
         same = record { plan = refl; pile = refl; next = refl; flying = refl };
         records = ap (set self.records c.args.picked.cell) (λ i. record {
-          condition = (c.let-out.ensures.condition
+          condition = (c.let_out.ensures.condition
               ∙ ap (λ b. next (cond b (Link (s.position + 1) (self.next + get_or (delays_of self.plan) c.args.port 0)) Out)) (sym on)) i;
-          first = c.let-out.ensures.first i;
+          first = c.let_out.ensures.first i;
         });
         contested = refl;
-        gone = λ l. let m = c.saturating-add-self.ensures in omega (arith, ap {B = ℕ} (λ b. cond b 0 1) on);
+        gone = λ l. let m = c.saturating_add-self.ensures in omega (arith, ap {B = ℕ} (λ b. cond b 0 1) on);
       };
       log = c.note.ensures;
       flown = λ room.

@@ -6,8 +6,8 @@ use Rattle.run.specs.Offsets.{no_record}
 use Rattle.run.proofs.Hops.{place_within}
 use Rattle.run.proofs.recording.Recording.sent.Goals as goal
 
-pub offset-bounds-self-cell : goal.offset-bounds-self-cell
-offset-bounds-self-cell c = let a = c.in-Some.ensures.0 in let b = few_cells_lem c.args.self.now.plan in search rules
+pub offset_bounds-self-cell : goal.offset_bounds-self-cell
+offset_bounds-self-cell c = let a = c.in-Some.ensures.0 in let b = few_cells_lem c.args.self.now.plan in search rules
 
 pub bounds-self-cell : goal.bounds-self-cell
 bounds-self-cell c = let a = c.in-Some.ensures.0 in let b = few_cells_lem c.args.self.now.plan in omega arith
@@ -26,11 +26,11 @@ within c =
     let hops = c.hops.ensures in
     (omega arith, omega arith)
 
-pub overflow-add-result : goal.overflow-add-result
-overflow-add-result c = let l = (within c).1 in search rules
+pub overflow_add-result : goal.overflow_add-result
+overflow_add-result c = let l = (within c).1 in search rules
 
-pub offset-bounds-log-self : goal.offset-bounds-log-self
-offset-bounds-log-self c = let l = (within c).1 in search rules
+pub offset_bounds-log-self : goal.offset_bounds-log-self
+offset_bounds-log-self c = let l = (within c).1 in search rules
 
 pub bounds-log-self : goal.bounds-log-self
 bounds-log-self c = (within c).0

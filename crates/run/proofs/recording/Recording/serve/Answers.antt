@@ -17,27 +17,27 @@ laws g = record {
   picked = g.met.D.Discipline.picked;
 }
 
-pub returns-in-default : goal.returns-in-default
-returns-in-default g c = record {
+pub returns-in_default : goal.returns-in_default
+returns-in_default g c = record {
   same = record { plan = refl; pile = refl; next = refl; flying = refl };
   turn = turn_idle _ _ _ _ _ (laws g) c.args.self.now c.args.log.now c.args.queue.now (elements c.args.flights.now) (length c.args.flights.now.places.now) c.args.port
-      c.in-default.field-0 c.pick.new.self c.in-default.ensures;
+      c.in_default.field-0 c.pick.new.self c.in_default.ensures;
   named = refl;
   long = refl;
 }
 
-pub returns-in-default-standing : goal.returns-in-default-standing
-returns-in-default-standing g c = record {
+pub returns-in_default-standing : goal.returns-in_default-standing
+returns-in_default-standing g c = record {
   same = record { plan = refl; pile = refl; next = refl; flying = refl };
   turn = λ I F A l w. absurd (
       stands_somewhere _ _ _ _ _ (laws g) c.args.self.now c.args.log.now c.args.queue.now (elements c.args.flights.now) (length c.args.flights.now.places.now) c.args.port
-      c.in-Ok.cell c.pick.new.self c.in-Ok.ensures I c.in-default-standing.ensures);
+      c.in-Ok.cell c.pick.new.self c.in-Ok.ensures I c.in_default-standing.ensures);
   named = refl;
   long = refl;
 }
 
-pub invariant-of-send : goal.invariant-of-send
-invariant-of-send g c =
+pub invariant_of-send : goal.invariant_of-send
+invariant_of-send g c =
     let s = c.in-Some.ensures in
     let few = route_few c.args.self.now.plan c.in-Ok.cell s.0.cell in
     let here = s.0.hop in (omega arith, tt)

@@ -7,11 +7,11 @@ use Rattle.run.proofs.recording.Recording.slot.Goals as goal
 refusal_so : {T E : Type 0} (r : Result T E) (x : E) → r ≡ Err x → (P : T → Type 0) (Q : E → Type 0) → Q x → MatchResult r P Q
 refusal_so r x e P Q h = subst (λ y. MatchResult y P Q) (sym e) h
 
-pub returns-in-err-test-slot : goal.returns-in-err-test-slot
-returns-in-err-test-slot g c =
+pub returns-in_err-test_slot : goal.returns-in_err-test_slot
+returns-in_err-test_slot g c =
     let e = err_from_is_err_and c.from-residual.result c.from-residual.ensures.1 in
     record {
-      value = e.1 ∙ ap Err e.2 ∙ c.in-err-test-slot.ensures.value;
+      value = e.1 ∙ ap Err e.2 ∙ c.in_err-test_slot.ensures.value;
       refused =
           let same : (c.args.self.now ≡ c.args.self.now) × (c.args.flights.now ≡ c.args.flights.now) × (c.args.log.now ≡ c.args.log.now) × (c.args.queue.now ≡ c.args.queue.now) = (refl, refl, refl, refl) in
           refusal_so c.from-residual.result e.0 e.1 _ _ same;
@@ -21,7 +21,7 @@ returns-in-err-test-slot g c =
 
 pub returns : goal.returns
 returns g c = record {
-  value = c.in-ok-test-slot.ensures.value;
+  value = c.in_ok-test_slot.ensures.value;
   refused = tt;
   performed = c.advance.ensures;
   ends = λ C. (ended_gone _ _ c.args.self.now c.args.log.now c.args.queue.now C.between, gone_ended _ _ c.args.self.now c.args.log.now c.args.queue.now C.between);

@@ -13,13 +13,13 @@ loop-number-init c = (refl, ready_start (cells_of c.args.plan.now))
 
 pub bounds-records-number : goal.bounds-records-number
 bounds-records-number c =
-    omega (arith, few_cells_lem c.args.plan.now, c.loop-number-test.true, ap length c.all-cells-cell-items.ensures, length-map c.all-cells-cell-items.result.now planned)
+    omega (arith, few_cells_lem c.args.plan.now, c.loop-number-test.true, ap length c.all_cells-cell-items.ensures, length-map c.all_cells-cell-items.result.now planned)
 
 -- the number of the cell that was read, and the hops up to and with it
 turn : (c : goal.After-ports) → (c.loop-number.number < 256) × (c.loop-number.first + length c.ports.result.now ≡ first_hop (cells_of c.args.plan.now) (c.loop-number.number + 1))
 turn c =
     let cs = cells_of c.args.plan.now in
-    let cell = cell_read c.all-cells-cell-items.result.now cs c.loop-number.number c.cell-item.result c.all-cells-cell-items.ensures c.loop-number-test.true c.cell-item.is in
+    let cell = cell_read c.all_cells-cell-items.result.now cs c.loop-number.number c.cell-item.result c.all_cells-cell-items.ensures c.loop-number-test.true c.cell-item.is in
     let k = cell.0 in
     let few = few_cells_lem c.args.plan.now in
     let long = ap length (c.ports.ensures ∙ ap ports_of c.route.ensures ∙ ap (λ x. x.route) (sym cell.1)) in
@@ -27,8 +27,8 @@ turn c =
     let first = c.loop-number.invariant.0 in
     (omega arith, omega arith)
 
-pub overflow-add-first : goal.overflow-add-first
-overflow-add-first c =
+pub overflow_add-first : goal.overflow_add-first
+overflow_add-first c =
     let plan = c.args.plan.now in
     let all = (turn c).1 in
     let within = first_hop_within (cells_of plan) (c.loop-number.number + 1) in
@@ -45,5 +45,5 @@ loop-number-preserved c =
 pub returns : goal.returns
 returns c =
     subst (λ k. Ready (cells_of c.args.plan.now) k c.loop-number.records)
-    (cells_read c.all-cells-cell-items.result.now _ c.loop-number.number c.all-cells-cell-items.ensures c.loop-number-test.false c.loop-number.auto.number-end)
+    (cells_read c.all_cells-cell-items.result.now _ c.loop-number.number c.all_cells-cell-items.ensures c.loop-number-test.false c.loop-number.auto.number-end)
     c.loop-number.invariant.1

@@ -11,7 +11,7 @@ loop-number-init c = (refl, refl, λ e l. e)
 pub loop-number-preserved : goal.loop-number-preserved
 loop-number-preserved c =
     let cs = cells_of c.args.plan.now in
-    let read = cell_read c.all-cells-cell-items.result.now cs c.loop-number.number c.cell-item.result c.all-cells-cell-items.ensures c.loop-number-test.true c.cell-item.is in (
+    let read = cell_read c.all_cells-cell-items.result.now cs c.loop-number.number c.cell-item.result c.all_cells-cell-items.ensures c.loop-number-test.true c.cell-item.is in (
       c.put.ensures.same ∙ c.loop-number.invariant.0,
       c.put.ensures.long ∙ c.loop-number.invariant.1,
       λ e l.
@@ -24,7 +24,7 @@ pub returns : goal.returns
 returns c = record {
   flights = λ e l.
       c.loop-number.invariant.2 e l
-      ∙ ap (launched (cells_of c.args.plan.now)) (cells_read c.all-cells-cell-items.result.now _ c.loop-number.number c.all-cells-cell-items.ensures c.loop-number-test.false c.loop-number.auto.number-end);
+      ∙ ap (launched (cells_of c.args.plan.now)) (cells_read c.all_cells-cell-items.result.now _ c.loop-number.number c.all_cells-cell-items.ensures c.loop-number-test.false c.loop-number.auto.number-end);
   same = c.loop-number.invariant.0;
   long = c.loop-number.invariant.1;
 }

@@ -14,10 +14,10 @@ loop-index-init c =
     let long : length c.args.seen.now ≡ 2049 = search rules in
     walking_none bs c.args.cell _ _ c.args.seen.now c.none-found.result n.len first c.requires.linked known long c.requires.seen n
 
-pub returns-in-err-reach : goal.returns-in-err-reach
-returns-in-err-reach c =
+pub returns-in_err-reach : goal.returns-in_err-reach
+returns-in_err-reach c =
     let p = err_from_is_err_and c.from-residual.result c.from-residual.ensures.1 in
-    let h = c.in-err-reach.ensures in
+    let h = c.in_err-reach.ensures in
     let w = c.loop-index.invariant in
     let more : 0 < c.loop-index.index = omega arith in
     let a = w.index in
@@ -34,7 +34,7 @@ loop-index-preserved c =
     let a = w.index in
     let b = w.flags-long in
     let in' : i < length c.loop-index.seen = omega arith in
-    let h = c.in-ok-reach.ensures in
+    let h = c.in_ok-reach.ensures in
     let r = c.hop-hop.ensures in
     let sent_is : c.hop-hop.result.sent ≡ sent_at bs i = ap (λ x. x.sent) r in
     let port_is : c.hop-hop.result.port ≡ port_at bs i = ap (λ x. x.port) r in

@@ -5,9 +5,9 @@ use Rattle.std.proofs.Common.{◌+◌}
 use Rattle.schedule.proofs.image.Image.test_hops.Goals as goal
 
 pub loop-k-preserved : goal.loop-k-preserved
-loop-k-preserved c = turn_passes (λ k. hop_fields c.args.self.now.bytes.now (k + 1)) _ _ c.loop-k.invariant c.in-ok-test-hop.ensures
+loop-k-preserved c = turn_passes (λ k. hop_fields c.args.self.now.bytes.now (k + 1)) _ _ c.loop-k.invariant c.in_ok-test_hop.ensures
 
-pub returns-in-err-test-hop : goal.returns-in-err-test-hop
-returns-in-err-test-hop c =
+pub returns-in_err-test_hop : goal.returns-in_err-test_hop
+returns-in_err-test_hop c =
     let p = err_from_is_err_and c.from-residual.result c.from-residual.ensures.1 in
-    rw (p.1, p.2) (turn_refuses (λ k. hop_fields c.args.self.now.bytes.now (k + 1)) _ _ _ c.loop-k-test.true c.loop-k.invariant c.in-err-test-hop.ensures)
+    rw (p.1, p.2) (turn_refuses (λ k. hop_fields c.args.self.now.bytes.now (k + 1)) _ _ _ c.loop-k-test.true c.loop-k.invariant c.in_err-test_hop.ensures)

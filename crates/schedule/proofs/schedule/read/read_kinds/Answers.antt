@@ -17,37 +17,37 @@ renamed : {bs bs' : List ℕ} {k k' : Kind} {ds : List ℕ} {cs : List Planned} 
 renamed {bs} {bs'} {k} {k'} {ds} {cs} {ms} b e g =
     subst (λ x. Gathered bs' x (cell_count bs') ds cs ms) e (subst (λ x. Gathered x k (cell_count x) ds cs ms) b g)
 
-pub returns-in-err-head : goal.returns-in-err-head
+pub returns-in_err-head : goal.returns-in_err-head
 unfolding first_refusal
-returns-in-err-head c =
+returns-in_err-head c =
     let p = err_from_is_err_and c.from-residual.result c.from-residual.ensures.1 in
-    rw (p.1, p.2) (stops_at_once _ _ _ (inr c.in-err-head.ensures))
+    rw (p.1, p.2) (stops_at_once _ _ _ (inr c.in_err-head.ensures))
 
-pub returns-in-err-test-fields : goal.returns-in-err-test-fields
+pub returns-in_err-test_fields : goal.returns-in_err-test_fields
 unfolding first_refusal
-returns-in-err-test-fields c =
-    let p = err_from_is_err_and c.from-residual-in-err-test-fields.result c.from-residual-in-err-test-fields.ensures.1 in
+returns-in_err-test_fields c =
+    let p = err_from_is_err_and c.from-residual-in_err-test_fields.result c.from-residual-in_err-test_fields.ensures.1 in
     let bs = c.args.bytes.now in
-    let e = c.in-err-test-fields.field-0.0 in
-    let failed : field_tests bs ≡ Some e = subst (λ b. field_tests b ≡ Some e) c.new-image.ensures.bytes (tested_refuses _ _ c.in-err-test-fields.ensures) in
-    rw (p.1, p.2) (stops_later _ _ _ c.in-ok-head.ensures.0 (stops_at_once _ _ _ (inr failed)))
+    let e = c.in_err-test_fields.field-0.0 in
+    let failed : field_tests bs ≡ Some e = subst (λ b. field_tests b ≡ Some e) c.new-image.ensures.bytes (tested_refuses _ _ c.in_err-test_fields.ensures) in
+    rw (p.1, p.2) (stops_later _ _ _ c.in_ok-head.ensures.0 (stops_at_once _ _ _ (inr failed)))
 
-pub returns-in-err-marks : goal.returns-in-err-marks
+pub returns-in_err-marks : goal.returns-in_err-marks
 unfolding first_refusal
-returns-in-err-marks c =
-    let p = err_from_is_err_and c.from-residual-in-err-marks.result c.from-residual-in-err-marks.ensures.1 in
+returns-in_err-marks c =
+    let p = err_from_is_err_and c.from-residual-in_err-marks.result c.from-residual-in_err-marks.ensures.1 in
     let bs = c.args.bytes.now in
-    let passed : field_tests bs ≡ None = subst (λ b. field_tests b ≡ None) c.new-image.ensures.bytes (tested_passes _ _ c.in-ok-test-fields.ensures) in
-    rw (p.1, p.2) (stops_later _ _ _ c.in-ok-head.ensures.0 (stops_later _ _ _ passed
-    (subst (λ b. Stops (chain_tests b) c.in-err-marks.field-0.0) c.new-image.ensures.bytes c.in-err-marks.ensures)))
+    let passed : field_tests bs ≡ None = subst (λ b. field_tests b ≡ None) c.new-image.ensures.bytes (tested_passes _ _ c.in_ok-test_fields.ensures) in
+    rw (p.1, p.2) (stops_later _ _ _ c.in_ok-head.ensures.0 (stops_later _ _ _ passed
+    (subst (λ b. Stops (chain_tests b) c.in_err-marks.field-0.0) c.new-image.ensures.bytes c.in_err-marks.ensures)))
 
-pub invariant-of-result : goal.invariant-of-result
-invariant-of-result c =
+pub invariant_of-result : goal.invariant_of-result
+invariant_of-result c =
     let bs = c.args.bytes.now in
-    let head = c.in-ok-head.ensures.1 in
-    let plan = c.gather-cells.new.plan in
-    let marks = c.in-ok-marks.marks in
-    let g = renamed c.new-image.ensures.bytes (ap (λ h. h.kind) c.new-image.ensures.head) c.in-ok-marks.ensures.1 in
+    let head = c.in_ok-head.ensures.1 in
+    let plan = c.gather_cells.new.plan in
+    let marks = c.in_ok-marks.marks in
+    let g = renamed c.new-image.ensures.bytes (ap (λ h. h.kind) c.new-image.ensures.head) c.in_ok-marks.ensures.1 in
     let a = g.ports.count in
     let b = g.cells in
     let has_ports = head.has_ports in
@@ -71,10 +71,10 @@ pub returns : goal.returns
 unfolding first_refusal
 returns c =
     let bs = c.args.bytes.now in
-    let head = c.in-ok-head.ensures.1 in
-    let passed : field_tests bs ≡ None = subst (λ b. field_tests b ≡ None) c.new-image.ensures.bytes (tested_passes _ _ c.in-ok-test-fields.ensures) in
-    let chains : chain_tests bs ≡ None = subst (λ b. chain_tests b ≡ None) c.new-image.ensures.bytes c.in-ok-marks.ensures.0 in
-    let g = renamed c.new-image.ensures.bytes (ap (λ h. h.kind) c.new-image.ensures.head) c.in-ok-marks.ensures.1 in (
-      or_else_after _ _ c.in-ok-head.ensures.0 ∙ or_else_after _ _ passed ∙ chains,
+    let head = c.in_ok-head.ensures.1 in
+    let passed : field_tests bs ≡ None = subst (λ b. field_tests b ≡ None) c.new-image.ensures.bytes (tested_passes _ _ c.in_ok-test_fields.ensures) in
+    let chains : chain_tests bs ≡ None = subst (λ b. chain_tests b ≡ None) c.new-image.ensures.bytes c.in_ok-marks.ensures.0 in
+    let g = renamed c.new-image.ensures.bytes (ap (λ h. h.kind) c.new-image.ensures.head) c.in_ok-marks.ensures.1 in (
+      or_else_after _ _ c.in_ok-head.ensures.0 ∙ or_else_after _ _ passed ∙ chains,
       held_whole bs _ _ _ _ _ head.kind head.pile g,
     )

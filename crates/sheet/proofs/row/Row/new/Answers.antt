@@ -25,8 +25,8 @@ loop-position-preserved c =
           (rw get_or-set_same),
     )
 
-pub invariant-of-result : goal.invariant-of-result
-invariant-of-result c =
+pub invariant_of-result : goal.invariant_of-result
+invariant_of-result c =
     let most = few c.route-route.result c.ports-ports.result.now c.ports-ports.ensures in
     (omega arith, (c.loop-position.invariant.0, (rw (to_z-of_z w32 c.args.slack c.ranges.slack) c.ranges.slack.sfits, tt)))
 

@@ -24,13 +24,13 @@ returns-then-cells-eq0 c = record { answers = search rules; one = one_telling }
 pub returns-then-slacks-cells : goal.returns-then-slacks-cells
 returns-then-slacks-cells c = record { answers = search rules; one = one_telling }
 
-pub rows-of-requires : goal.rows-of-requires
-rows-of-requires c =
+pub rows_of-requires : goal.rows_of-requires
+rows_of-requires c =
     let p = c.args.plan.now in
     let few = few_cells_lem p in
-    let mapped = length-map c.all-cells.result.now planned in
-    let all = ap length c.all-cells.ensures in
-    let hops = ap hops_in c.all-cells.ensures in
+    let mapped = length-map c.all_cells.result.now planned in
+    let all = ap length c.all_cells.ensures in
+    let hops = ap hops_in c.all_cells.ensures in
     ((omega arith, omega arith), omega arith)
 
 -- what the calls have made for the plan
@@ -45,13 +45,13 @@ made p xs ss n m ds all cs rs ports count delays padded cells told =
       told = subst (λ x. EachTold x xs ss (map scheduled rs)) cells told.1;
     }
 
-pub invariant-of-result : goal.invariant-of-result
-invariant-of-result c =
+pub invariant_of-result : goal.invariant_of-result
+invariant_of-result c =
     let p = c.args.plan.now in
     let ports = few_ports_lem p in
     let cells = few_cells_lem p in
     let some = c.if-cells-eq0.false in
-    let m = made p c.args.slacks.now c.args.slots.now c.ports-ports.result c.cells-cells.result c.delays.result.now c.padded.result _ c.rows-of.result c.ports-ports.ensures c.cells-cells.ensures c.delays.ensures c.padded.ensures c.all-cells.ensures c.rows-of.ensures in (
+    let m = made p c.args.slacks.now c.args.slots.now c.ports-ports.result c.cells-cells.result c.delays.result.now c.padded.result _ c.rows_of.result c.ports-ports.ensures c.cells-cells.ensures c.delays.ensures c.padded.ensures c.all_cells.ensures c.rows_of.ensures in (
       omega arith,
       (
         omega arith,
@@ -60,7 +60,7 @@ invariant-of-result c =
           (
             c.hops-hops.ensures ∙ all_hops c.args.run c.args.pile p _ _ _ _ _ _ m,
             (
-              ∣ fit c.args.run c.args.pile p _ _ _ _ _ _ m (omega arith) c.type-inv.slots ∣₁,
+              ∣ fit c.args.run c.args.pile p _ _ _ _ _ _ m (omega arith) c.type_inv.slots ∣₁,
               tt,
             ),
           ),
@@ -74,7 +74,7 @@ returns c =
     let n = c.cells-cells.ensures in
     let h = c.hops-hops.ensures in
     let some = c.if-cells-eq0.false in
-    let m = made p c.args.slacks.now c.args.slots.now c.ports-ports.result c.cells-cells.result c.delays.result.now c.padded.result _ c.rows-of.result c.ports-ports.ensures c.cells-cells.ensures c.delays.ensures c.padded.ensures c.all-cells.ensures c.rows-of.ensures in
+    let m = made p c.args.slacks.now c.args.slots.now c.ports-ports.result c.cells-cells.result c.delays.result.now c.padded.result _ c.rows_of.result c.ports-ports.ensures c.cells-cells.ensures c.delays.ensures c.padded.ensures c.all_cells.ensures c.rows_of.ensures in
     record {
       answers = (passes _ _ _ _ (λ e. some (n ∙ e)) (omega arith) (omega arith), tells c.args.run c.args.pile p _ _ _ _ _ _ m);
       one = one_telling;

@@ -32,8 +32,8 @@ new-requires c =
     let part = hops_part (map planned cs) (c.loop-k.k + 1) in
     omega arith
 
-pub overflow-add-first : goal.overflow-add-first
-overflow-add-first c =
+pub overflow_add-first : goal.overflow_add-first
+overflow_add-first c =
     let cs = c.args.cells.now in
     let step = more cs c.loop-k.k c.index-cells-k.result c.loop-k-test.true c.index-cells-k.is in
     let part = hops_part (map planned cs) (c.loop-k.k + 1) in

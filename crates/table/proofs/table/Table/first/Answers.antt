@@ -10,8 +10,8 @@ returns g c =
     let n = c.args.self.now.len in
     let len = c.len-len.result in
     let all = c.len-len.ensures.places in
-    let is = told_first le xs xs n len all c.args.mark.now c.first-among.result c.first-among.ensures in
+    let is = told_first le xs xs n len all c.args.mark.now c.first_among.result c.first_among.ensures in
     record {
       value = is;
-      least = told_least le xs xs n len all c.args.mark.now c.first-among.result o is;
+      least = told_least le xs xs n len all c.args.mark.now c.first_among.result o is;
     }

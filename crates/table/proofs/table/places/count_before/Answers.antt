@@ -2,14 +2,14 @@ use Rattle.std.proofs.Common.{not, sym, ap, arith}
 use Rattle.table.proofs.Fronts.{front_stops, front_goes, front_ends}
 use Rattle.table.proofs.table.places.count_before.Goals as goal
 
-pub returns-then-not-after : goal.returns-then-not-after
-returns-then-not-after g c = record {
-  value = front_stops (λ x. not (g.E.Ordered.upto c.args.mark.now x)) c.args.xs.now c.loop-i.i c.index-xs-i.result (omega arith) c.index-xs-i.is c.loop-i.invariant (sym (ap not c.if-not-after.ensures));
+pub returns-then-not_after : goal.returns-then-not_after
+returns-then-not_after g c = record {
+  value = front_stops (λ x. not (g.E.Ordered.upto c.args.mark.now x)) c.args.xs.now c.loop-i.i c.index-xs-i.result (omega arith) c.index-xs-i.is c.loop-i.invariant (sym (ap not c.if-not_after.ensures));
   bound = omega arith;
 }
 
 pub loop-i-preserved : goal.loop-i-preserved
-loop-i-preserved g c = front_goes (λ x. not (g.E.Ordered.upto c.args.mark.now x)) c.args.xs.now c.loop-i.i c.index-xs-i.result (omega arith) c.index-xs-i.is c.loop-i.invariant (sym (ap not c.if-not-after.ensures))
+loop-i-preserved g c = front_goes (λ x. not (g.E.Ordered.upto c.args.mark.now x)) c.args.xs.now c.loop-i.i c.index-xs-i.result (omega arith) c.index-xs-i.is c.loop-i.invariant (sym (ap not c.if-not_after.ensures))
 
 pub returns : goal.returns
 returns g c = record {

@@ -6,7 +6,7 @@ pub returns-then-at-xs : goal.returns-then-at-xs
 returns-then-at-xs g c =
     let xs = c.args.xs.now in
     let x = c.index-xs-at.result in
-    ap Some (c.index-xs-at.is ∙ ap (λ k. get_or xs k x) c.count-before-at.ensures.value)
+    ap Some (c.index-xs-at.is ∙ ap (λ k. get_or xs k x) c.count_before-at.ensures.value)
     ∙ sym (first_from_at g.E.Ordered.upto c.args.mark.now xs x (omega arith))
 
 pub returns-else-at-xs : goal.returns-else-at-xs

@@ -8,13 +8,13 @@ returns g c =
     let le = g.E.Ordered.upto in
     let e = c.args.e in
     let xs = c.args.places.now in
-    let ys = c.open-at.new.places in
+    let ys = c.open_at.new.places in
     let len = c.args.len in
-    let r = c.count-not-after-at.result in
+    let r = c.count_not_after-at.result in
     let whole : len - 0 ≡ len = omega arith in
-    let at = c.count-not-after-at.ensures.value ∙ ap (λ n. front (λ x. le x e) (take n xs)) whole in
-    let bound : r ≤ len = omega (arith, c.count-not-after-at.ensures.bound, length-take (len - 0) xs) in
+    let at = c.count_not_after-at.ensures.value ∙ ap (λ n. front (λ x. le x e) (take n xs)) whole in
+    let bound : r ≤ len = omega (arith, c.count_not_after-at.ensures.bound, length-take (len - 0) xs) in
     record {
-      elements = put_elements le e xs ys len r (omega arith) at bound c.open-at.ensures;
-      rest = put_rest le e xs ys len r (omega arith) at bound c.open-at.ensures;
+      elements = put_elements le e xs ys len r (omega arith) at bound c.open_at.ensures;
+      rest = put_rest le e xs ys len r (omega arith) at bound c.open_at.ensures;
     }

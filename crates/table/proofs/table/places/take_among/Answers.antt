@@ -10,7 +10,7 @@ returns-then-at-len g c =
     let xs = c.args.places.now in
     let len = c.args.len in
     let whole : len - 0 ≡ len = omega arith in
-    let at = c.count-before-at.ensures.value ∙ ap (λ n. before le m (take n xs)) whole in
+    let at = c.count_before-at.ensures.value ∙ ap (λ n. before le m (take n xs)) whole in
     let n : length (take len xs) ≡ len = length-take-le len xs (omega arith) in
     record {
       value = sym (first_from_past le m (take len xs) (omega arith));
@@ -22,12 +22,12 @@ returns g c =
     let le = g.E.Ordered.upto in
     let m = c.args.mark.now in
     let xs = c.args.places.now in
-    let ys = c.close-at.new.places in
+    let ys = c.close_at.new.places in
     let len = c.args.len in
-    let r = c.count-before-at.result in
+    let r = c.count_before-at.result in
     let x = c.index-places-at.result in
     let whole : len - 0 ≡ len = omega arith in
-    let at = c.count-before-at.ensures.value ∙ ap (λ n. before le m (take n xs)) whole in
+    let at = c.count_before-at.ensures.value ∙ ap (λ n. before le m (take n xs)) whole in
     let n : length (take len xs) ≡ len = length-take-le len xs (omega arith) in
     record {
       value =
@@ -35,7 +35,7 @@ returns g c =
           ∙ sym (first_from_at le m (take len xs) x (omega arith));
       done = (
         omega arith,
-        take_elements le m xs ys len r (omega arith) at c.if-at-len.false c.close-at.ensures,
-        take_rest le m xs ys len r (omega arith) at c.if-at-len.false c.close-at.ensures,
+        take_elements le m xs ys len r (omega arith) at c.if-at-len.false c.close_at.ensures,
+        take_rest le m xs ys len r (omega arith) at c.if-at-len.false c.close_at.ensures,
       );
     }

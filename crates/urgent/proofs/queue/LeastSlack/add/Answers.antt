@@ -19,9 +19,9 @@ never_full a b e l h =
     let f : ◌≡◌ {A = Result (Unit {0}) Refusal} (Err e) (Ok tt) = h ∙ ap (λ t. tested (when t NoPlace)) (lt-leb a b l) in
     let z : ◌≡◌ {A = ℕ} 0 1 = cc in omega arith
 
-pub returns-in-err-put : goal.returns-in-err-put
-returns-in-err-put g c ok free =
-    absurd (never_full _ _ _ (has_room _ _ _ _ ok c.args.cell c.args.stay c.requires.0 free) c.in-err-put.ensures.value)
+pub returns-in_err-put : goal.returns-in_err-put
+returns-in_err-put g c ok free =
+    absurd (never_full _ _ _ (has_room _ _ _ _ ok c.args.cell c.args.stay c.requires.0 free) c.in_err-put.ensures.value)
 
 pub returns : goal.returns
 returns g c ok free =
@@ -31,11 +31,11 @@ returns g c ok free =
     let below : s.port < 32 = c.requires.1 in
     let here = ok.counted s.port below in
     let few = passing_few 256 (waits_at_lem (waiting_by self.stays) s.port) in
-    let one : c.saturating-add.result ≡ get_or self.counts s.port 0 + 1 = (let e = c.saturating-add.ensures in omega arith) in (
+    let one : c.saturating_add.result ≡ get_or self.counts s.port 0 + 1 = (let e = c.saturating_add.ensures in omega arith) in (
       refl,
       (
         sound_as refl (ap (set self.counts s.port) one)
-            (c.in-ok-put.ensures.done ∙ ap (λ z. put_in due_upto (record { port = s.port; due = z; cell = c.args.cell }) (g.T.Store.cells self.queue)) (to_z-of_z w64 s.due small)) c.in-ok-put.ensures.long
+            (c.in_ok-put.ensures.done ∙ ap (λ z. put_in due_upto (record { port = s.port; due = z; cell = c.args.cell }) (g.T.Store.cells self.queue)) (to_z-of_z w64 s.due small)) c.in_ok-put.ensures.long
             (sound_add _ _ _ _ ok c.args.cell s c.requires.0 free (omega arith) (not_too_early s.due small)),
         refl,
       ),

@@ -17,14 +17,14 @@ pick_passes w p a b =
     ap (λ t. or_else (when t OutOfRange) (when (eqb (count_at w p) 0) NoneWaits)) (le-ltb 31 p a)
     ∙ ap (λ t. when t NoneWaits) (ne_eqb (count_at w p) 0 (λ e. omega arith))
 
-pub returns-in-default : goal.returns-in-default
-returns-in-default g c ok =
+pub returns-in_default : goal.returns-in_default
+returns-in_default g c ok =
     let self = c.args.self.now in
     let port : c.args.port ≤ 31 = c.if-port-gt31.false in
     let here = ok.counted c.args.port (omega arith) in
     let some : 0 < count_at (waiting_by self.stays) c.args.port = omega arith in
     let n = next_told _ _ _ _ ok c.args.port some in
-    let e : ◌≡◌ {A = Option DueCell} None (Some (due_cell (next_due (g.T.Store.cells self.queue) c.args.port) n.0)) = c.in-default.ensures.value ∙ n.1 in
+    let e : ◌≡◌ {A = Option DueCell} None (Some (due_cell (next_due (g.T.Store.cells self.queue) c.args.port) n.0)) = c.in_default.ensures.value ∙ n.1 in
     let z : ◌≡◌ {A = ℕ} 0 1 = cc in
     absurd (omega arith)
 

@@ -5,9 +5,9 @@ use Rattle.layout.specs.Sources.{TellsCell}
 use Rattle.schedule.specs.Contents.{cell_is, cell_past, length_hops}
 use Rattle.schedule.proofs.schedule.source.ScheduleSource.cell.Goals as goal
 
-pub returns-in-default : goal.returns-in-default
-returns-in-default c =
-    subst (TellsCell _) (sym (cell_past c.args.self.now c.args.cell c.in-default.ensures))
+pub returns-in_default : goal.returns-in_default
+returns-in_default c =
+    subst (TellsCell _) (sym (cell_past c.args.self.now c.args.cell c.in_default.ensures))
     (record { entry = refl; flow = refl; slack = refl; hops = refl })
 
 pub returns : goal.returns

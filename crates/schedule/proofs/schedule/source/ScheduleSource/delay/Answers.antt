@@ -9,4 +9,4 @@ asked_or ds i (Some d) h = h.1
 asked_or ds i None h = sym (get_or_past ds i 0 h)
 
 pub returns : goal.returns
-returns c = c.unwrap-or.ensures ∙ asked_or _ _ _ c.delay.ensures
+returns c = c.unwrap_or.ensures ∙ asked_or _ _ _ c.delay.ensures

@@ -9,8 +9,8 @@ use Rattle.schedule.proofs.schedule.source.ScheduleSource.hop.Goals as goal
 told : (p s : ℕ) {h : Hop} → h ≡ record { port = p; sent = s } → TellsHop (record { port = p; sent = s }) h
 told p s e = record { port = ap (λ x. x.port) (sym e); sent = ap (λ x. x.sent) (sym e) }
 
-pub returns-in-default : goal.returns-in-default
-returns-in-default c = told 0 0 (ap (λ x. get_or x.hops c.args.position no_hop) (cell_past c.args.self.now c.args.cell c.in-default.ensures))
+pub returns-in_default : goal.returns-in_default
+returns-in_default c = told 0 0 (ap (λ x. get_or x.hops c.args.position no_hop) (cell_past c.args.self.now c.args.cell c.in_default.ensures))
 
 pub returns-then-position-ports : goal.returns-then-position-ports
 returns-then-position-ports c =

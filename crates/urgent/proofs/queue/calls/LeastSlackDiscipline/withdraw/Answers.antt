@@ -30,9 +30,9 @@ returns g c ok =
       withdraw_passes (waiting_by self.stays) c.args.port c.args.cell s c.if-port-gt31.false c.if-cell-gt255.false waits port,
       (
         sound_as f.stays (f.counts ∙ ap (λ k. set self.counts k (get_or self.counts k 0 - 1)) (sym port))
-            (ap g.T.Store.cells f.queue ∙ c.take-first.ensures.done
+            (ap g.T.Store.cells f.queue ∙ c.take_first.ensures.done
             ∙ ap (λ d. taken_from due_upto d (g.T.Store.cells self.queue)) (λ i. record { port = sym port i; due = to_z-of_z w64 s.due small i; cell = c.args.cell }))
-            (ap g.T.Store.room f.queue ∙ c.take-first.ensures.long)
+            (ap g.T.Store.room f.queue ∙ c.take_first.ensures.long)
             (sound_remove _ _ _ _ ok c.args.cell s waits x (found _ _ _ _ ok c.args.cell s waits)),
         f.stays,
       ),
