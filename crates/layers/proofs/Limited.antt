@@ -1,6 +1,6 @@
 -- Where cells can wait, and what the questions tell.
 use Rattle.std.proofs.Common.{◌≡◌, ℕ, ◌<◌, Bool, true, false, not, ◌||◌, eqb, ltb, is_some, Some, None, Ok, Err, Option, sym, refl, ap, ◌∙◌, inl, inr, arith}
-use Rattle.std.proofs.lemmas.Bool.{cases_eq, eqb_false, ne_eqb, ltb-false, le-ltb, not_false, or_parts, or_from, false≢true}
+use Rattle.std.proofs.lemmas.Bool.{cases_eq, eqb-false, ne_eqb, ltb-false, le-ltb, not-false, or_parts, or_from, false≢true}
 use Rattle.refusal.specs.Tests.{when, or_else}
 use Rattle.refusal.specs.declared.Refusal.{Refusal}
 use Rattle.refusal.specs.declared.Refusal.TheVariants.{OutOfRange, AlreadyWaits, NoneWaits, NotWaiting}
@@ -40,7 +40,7 @@ passed_told true r x y h = let z : ◌≡◌ {A = ℕ} 0 1 = cc in absurd (omega
 pub chosen_at : (w : Waiting) (p x : ℕ) → pick_test w p ≡ None → Lawful w p x → At w p x
 chosen_at w p x h lawful =
     let b = when_passes (eqb (count_at w p) 0) NoneWaits (or_else_passes (when (ltb 31 p) OutOfRange) (when (eqb (count_at w p) 0) NoneWaits) h).1 in
-    let n = eqb_false (count_at w p) 0 b in
+    let n = eqb-false (count_at w p) 0 b in
     elim (cases_eq (count_at w p) 0) [
       | inl z ↦ absurd (n z)
       | inr z ↦ (let k = passing_find 256 (waits_at_lem w p) (omega arith) in lawful k.0 k.2)
@@ -49,7 +49,7 @@ chosen_at w p x h lawful =
 -- a withdrawal that passes its test finds its cell waiting
 pub withdrawn_at : (w : Waiting) (p c : ℕ) → withdraw_test w p c ≡ None → At w p c
 withdrawn_at w p c h =
-    not_false (waits_at_lem w p c) (when_passes (not (waits_at_lem w p c)) NotWaiting (or_else_passes (when (ltb 31 p || ltb 255 c) OutOfRange) (when (not (waits_at_lem w p c)) NotWaiting) h).1)
+    not-false (waits_at_lem w p c) (when_passes (not (waits_at_lem w p c)) NotWaiting (or_else_passes (when (ltb 31 p || ltb 255 c) OutOfRange) (when (not (waits_at_lem w p c)) NotWaiting) h).1)
 
 -- an arrival that passes its test is of one of the 256 cells
 pub arrive_limit : (w : Waiting) (p c f : ℕ) → arrive_test w p c f ≡ None → c < 256

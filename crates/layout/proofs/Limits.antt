@@ -1,6 +1,6 @@
 -- The limits that a content keeps, for each cell and for the counts.
 use Rattle.std.proofs.Common.{◌≡◌, ℕ, zero, suc, ◌+◌, ◌*◌, ◌<◌, ◌≤◌, List, [], ◌∷◌, length, get_or, take, refl, ap, subst, arith}
-use Rattle.std.proofs.lemmas.List.{get_or_map, length-map}
+use Rattle.std.proofs.lemmas.List.{get_or-map, length-map}
 use Rattle.plan.specs.Cells.{Fitting, no_cell}
 use Rattle.layout.specs.Contents.{Scheduled, Content, no_scheduled, plan_part, total_hops, Fit}
 
@@ -42,7 +42,7 @@ total_hops_le (x ∷ cs) h =
 module _ (x : Content) (fit : Fit x) where
   pub fitting : (c : ℕ) → c < length x.cells → Fitting (length x.delays) (plan_part (cell x c))
   fitting c l =
-      subst (Fitting (length x.delays)) (get_or_map plan_part x.cells c no_scheduled no_cell l)
+      subst (Fitting (length x.delays)) (get_or-map plan_part x.cells c no_scheduled no_cell l)
       (fit.cells c (simp length-map l))
 
   -- a route has 1 to 8 hops

@@ -1,7 +1,7 @@
 -- What every line keeps, and what its changes leave.
 use Rattle.std.proofs.Common.{◌≡◌, ℕ, ◌+◌, ◌-◌, ◌<◌, ◌≤◌, true, List, [], ◌∷◌, ◌++◌, length, get_or, take, drop, set, None, sym, refl, ap, ◌∙◌, inl, inr, arith}
 use Rattle.std.specs.List.{remove}
-use Rattle.std.proofs.lemmas.List.{length_push, length-take-le, take_more_set, get_or-set_same, get_or-set_other, get_or_take, take_at}
+use Rattle.std.proofs.lemmas.List.{length_push, length-take-le, take_more_set, get_or-set_same, get_or-set_other, get_or-take, take_at}
 use Rattle.std.proofs.lemmas.List.Edits.{length-remove}
 use Rattle.std.proofs.lemmas.Bool.{cases_eq}
 use Rattle.queues.specs.Entries.{stay_of, no_entry, waiting_in, at_port, without, proper}
@@ -67,7 +67,7 @@ module _ (l : Line) (long : length l.entries ≡ 256) (wide : length l.counts �
   -- the entry at a place is taken out
   module _ (at : ℕ) (inside : at < l.len) where
     same_entry : get_or (queue l) at no_entry ≡ get_or l.entries at no_entry
-    same_entry = get_or_take l.len l.entries at no_entry inside
+    same_entry = get_or-take l.len l.entries at no_entry inside
 
     pub gone_port : (get_or l.entries at no_entry).port < 32
     gone_port =

@@ -1,7 +1,7 @@
 -- The loops that search among entries.
 use Rattle.std.proofs.Common.{◌≡◌, ℕ, suc, ◌+◌, ◌-◌, ◌<◌, ◌≤◌, eqb, List, ◌∷◌, length, get_or, drop, None, sym, ap, ◌∙◌, arith}
 use Rattle.std.proofs.lemmas.List.{at_drop_more, at_drop_all}
-use Rattle.std.proofs.lemmas.Bool.{eq-eqb, ne_eqb, cond_true, cond-false}
+use Rattle.std.proofs.lemmas.Bool.{eq-eqb, ne_eqb, cond-true, cond-false}
 use Rattle.queues.specs.Entries.{no_entry, waiting_in, at_port, first_at_lem, last_at_lem}
 use Rattle.queues.specs.declared.entry.Entry.{Entry}
 use Rattle.queues.specs.Queued.{waits_later}
@@ -20,7 +20,7 @@ place_none q c i l inv = sym inv ∙ at_drop_all (λ r. waiting_in r c) q i l
 pub first_here : (q : List Entry) (p i : ℕ) → i < length q → (get_or q i no_entry).port ≡ p → first_at_lem (drop i q) p ≡ first_at_lem q p → (get_or q i no_entry).cell ≡ first_at_lem q p
 first_here q p i l h inv =
     let a : first_at_lem (drop i q) p ≡ first_at_lem (get_or q i no_entry ∷ drop (i + 1) q) p = at_drop_more (λ r. first_at_lem r p) q i no_entry l in
-    sym (cond_true (eqb (get_or q i no_entry).port p) (get_or q i no_entry).cell (first_at_lem (drop (i + 1) q) p) (eq-eqb (get_or q i no_entry).port p h)) ∙ sym a ∙ inv
+    sym (cond-true (eqb (get_or q i no_entry).port p) (get_or q i no_entry).cell (first_at_lem (drop (i + 1) q) p) (eq-eqb (get_or q i no_entry).port p h)) ∙ sym a ∙ inv
 
 pub first_more : (q : List Entry) (p i : ℕ) → i < length q → ((get_or q i no_entry).port ≡ p → ⊥) → first_at_lem (drop i q) p ≡ first_at_lem q p → first_at_lem (drop (i + 1) q) p ≡ first_at_lem q p
 first_more q p i l h inv =

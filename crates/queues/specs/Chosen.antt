@@ -1,7 +1,7 @@
 -- The first and the last entry at a port.
 use Rattle.std.specs.Prelude.{◌≡◌, ℕ, zero, suc, ◌<◌, true, List, [], ◌∷◌, length, drop, ◌==◌, ◌≢◌, nat_eq, slice_index_or}
 use Rattle.std.proofs.Common.{sym, ap, ◌∙◌, inl, inr, arith}
-use Rattle.std.proofs.lemmas.Bool.{cases_eq, cases_Bool, eq-eqb, ne_eqb, eqb-true, cond_true, cond-false}
+use Rattle.std.proofs.lemmas.Bool.{cases_eq, cases_Bool, eq-eqb, ne_eqb, eqb-true, cond-true, cond-false}
 use Rattle.discipline.specs.Meaning.{stays_at, waits_at_lem, At, Lawful}
 use Rattle.queues.specs.Entries.{no_entry, waiting_in, at_port, first_at_lem, last_at_lem, proper, StandsAt}
 use Rattle.queues.specs.declared.entry.Entry.{Entry}
@@ -12,7 +12,7 @@ pub at_port_some : (q : List Entry) (p c : ℕ) → At (waiting_in q) p c → 0 
 at_port_some [] p c h = let z : ◌≡◌ {A = ℕ} 0 1 = cc in absurd (omega arith)
 at_port_some (e ∷ q) p c h =
     elim (cases_Bool (e.port == p)) [
-      | inl x ↦ (let m = cond_true (e.port == p) (suc (at_port q p)) (at_port q p) x in omega arith)
+      | inl x ↦ (let m = cond-true (e.port == p) (suc (at_port q p)) (at_port q p) x in omega arith)
       | inr x ↦
           (let m = cond-false (e.port == p) (suc (at_port q p)) (at_port q p) x in
           elim (cases_eq c e.cell) [
@@ -25,10 +25,10 @@ at_port_some (e ∷ q) p c h =
 
 -- the first entry where it is at the port, and the last where none behind it is there
 first_one : (e : Entry) (p : ℕ) → e.port ≡ p → first_at_lem (e ∷ []) p ≡ e.cell
-first_one e p h = cond_true (e.port == p) e.cell 0 (eq-eqb e.port p h)
+first_one e p h = cond-true (e.port == p) e.cell 0 (eq-eqb e.port p h)
 
 last_one : (e : Entry) (q : List Entry) (p : ℕ) → e.port ≡ p → at_port q p ≡ 0 → last_at_lem (e ∷ q) p ≡ e.cell
-last_one e q p h n = cond_true (at_port q p == 0) (first_at_lem (e ∷ []) p) (last_at_lem q p) (eq-eqb (at_port q p) 0 n) ∙ first_one e p h
+last_one e q p h n = cond-true (at_port q p == 0) (first_at_lem (e ∷ []) p) (last_at_lem q p) (eq-eqb (at_port q p) 0 n) ∙ first_one e p h
 
 last_later : (e : Entry) (q : List Entry) (p : ℕ) → (at_port q p ≢ 0) → last_at_lem (e ∷ q) p ≡ last_at_lem q p
 last_later e q p n = cond-false (at_port q p == 0) (first_at_lem (e ∷ []) p) (last_at_lem q p) (ne_eqb (at_port q p) 0 n)
@@ -38,7 +38,7 @@ pub first_stands : (q : List Entry) (p : ℕ) → 0 < at_port q p → (i : ℕ) 
 first_stands [] p h = absurd (omega arith)
 first_stands (e ∷ q) p h =
     elim (cases_Bool (e.port == p)) [
-      | inl x ↦ (0, (omega arith, sym (cond_true (e.port == p) e.cell (first_at_lem q p) x), eqb-true e.port p x))
+      | inl x ↦ (0, (omega arith, sym (cond-true (e.port == p) e.cell (first_at_lem q p) x), eqb-true e.port p x))
       | inr x ↦
           (let m = cond-false (e.port == p) (suc (at_port q p)) (at_port q p) x in
           let r = first_stands q p (omega arith) in
@@ -76,11 +76,11 @@ last_lawful q p h c w =
 pub at_port_place : (q : List Entry) (p i : ℕ) → i < length q → (slice_index_or q i no_entry).port ≡ p → 0 < at_port q p
 at_port_place [] p i l h = absurd (omega arith)
 at_port_place (e ∷ q) p zero l h =
-    let m = cond_true (e.port == p) (suc (at_port q p)) (at_port q p) (eq-eqb e.port p h) in omega arith
+    let m = cond-true (e.port == p) (suc (at_port q p)) (at_port q p) (eq-eqb e.port p h) in omega arith
 at_port_place (e ∷ q) p (suc i) l h =
     let r = at_port_place q p i (omega arith) h in
     elim (cases_Bool (e.port == p)) [
-      | inl x ↦ (let m = cond_true (e.port == p) (suc (at_port q p)) (at_port q p) x in omega arith)
+      | inl x ↦ (let m = cond-true (e.port == p) (suc (at_port q p)) (at_port q p) x in omega arith)
       | inr x ↦ (let m = cond-false (e.port == p) (suc (at_port q p)) (at_port q p) x in omega arith)
     ]
 

@@ -1,7 +1,7 @@
 -- What tests that pass tell.
 use Rattle.std.specs.Prelude.{◌≡◌, ℕ, ◌<◌, ◌≤◌, true, not, ◌||◌, List, is_some, None, ◌==◌, nat_lt}
 use Rattle.std.proofs.Common.{ap, ◌∙◌, arith}
-use Rattle.std.proofs.lemmas.Bool.{or_from, le-ltb, eqb_false}
+use Rattle.std.proofs.lemmas.Bool.{or_from, le-ltb, eqb-false}
 use Rattle.refusal.specs.Tests.{when, or_else}
 use Rattle.refusal.specs.declared.Refusal.TheVariants.{OutOfRange, AlreadyWaits, NoneWaits, NotWaiting}
 use Rattle.refusal.proofs.Ordered.{or_else_passes, when_passes}
@@ -38,6 +38,6 @@ pub pick_some : (q : List Entry) (p : ℕ) → proper q ≡ true → pick_test (
 pick_some q p h t =
     let a = or_else_passes (when (nat_lt 31 p) OutOfRange) (when (count_at (waiting_in q) p == 0) NoneWaits) t in
     let b = when_passes (count_at (waiting_in q) p == 0) NoneWaits a.1 in
-    let ne = eqb_false (count_at (waiting_in q) p) 0 b in
+    let ne = eqb-false (count_at (waiting_in q) p) 0 b in
     let c = at_port_counts q p h in
     omega arith

@@ -2,7 +2,7 @@
 use Rattle.std.specs.Prelude.{◌≡◌, ℕ, zero, suc, ◌+◌, ◌<◌, ◌≤◌, Bool, true, false, cond, not, ◌&&◌, List, [], ◌∷◌, ◌++◌, length, get_or, is_some, Some, None, Option, ◌==◌, ◌≢◌, nat_lt, slice_index_or, refl}
 use Rattle.std.proofs.Common.{sym, ap, ◌∙◌, inl, inr, arith}
 use Rattle.std.specs.List.{remove}
-use Rattle.std.proofs.lemmas.Bool.{cases_eq, cases_Bool, eq-eqb, ne_eqb, lt-ltb, ltb-true, and_parts, and_from, not-true, cond_true, cond-false}
+use Rattle.std.proofs.lemmas.Bool.{cases_eq, cases_Bool, eq-eqb, ne_eqb, lt-ltb, ltb-true, and_parts, and_from, not-true, cond-true, cond-false}
 use Rattle.discipline.specs.Meaning.{passing, count_at, Limits, Same, with_cell, without_cell}
 use Rattle.discipline.specs.declared.stay.Stay.{Stay}
 use Rattle.discipline.proofs.Counting.{passing_few, passing_more, count_with, count_with_other, empty_count}
@@ -40,7 +40,7 @@ fit e q c p n r =
 
 -- the first entry, and the others
 pub waits_first : (e : Entry) (q : List Entry) (k : ℕ) → k ≡ e.cell → waiting_in (e ∷ q) k ≡ Some (stay_of e)
-waits_first e q k h = cond_true (k == e.cell) (Some (stay_of e)) (waiting_in q k) (eq-eqb k e.cell h)
+waits_first e q k h = cond-true (k == e.cell) (Some (stay_of e)) (waiting_in q k) (eq-eqb k e.cell h)
 
 pub waits_later : (e : Entry) (q : List Entry) (k : ℕ) → (k ≢ e.cell) → waiting_in (e ∷ q) k ≡ waiting_in q k
 waits_later e q k h = cond-false (k == e.cell) (Some (stay_of e)) (waiting_in q k) (ne_eqb k e.cell h)
@@ -88,7 +88,7 @@ at_port_counts (e ∷ q) p h =
     elim (cases_eq e.port p) [
       | inl x ↦
           (let n : count_at (waiting_in (e ∷ q)) p ≡ count_at (waiting_in q) p + 1 = count_with (waiting_in q) e.cell (stay_of e) p f.cell f.new x in
-          let m = cond_true (e.port == p) (suc (at_port q p)) (at_port q p) (eq-eqb e.port p x) in
+          let m = cond-true (e.port == p) (suc (at_port q p)) (at_port q p) (eq-eqb e.port p x) in
           omega arith)
       | inr x ↦
           (let n : count_at (waiting_in (e ∷ q)) p ≡ count_at (waiting_in q) p = count_with_other (waiting_in q) e.cell (stay_of e) p f.new x in
@@ -102,7 +102,7 @@ at_port_few [] p = omega arith
 at_port_few (e ∷ q) p =
     let r = at_port_few q p in
     elim (cases_Bool (e.port == p)) [
-      | inl x ↦ (let m = cond_true (e.port == p) (suc (at_port q p)) (at_port q p) x in omega arith)
+      | inl x ↦ (let m = cond-true (e.port == p) (suc (at_port q p)) (at_port q p) x in omega arith)
       | inr x ↦ (let m = cond-false (e.port == p) (suc (at_port q p)) (at_port q p) x in omega arith)
     ]
 
@@ -112,8 +112,8 @@ at_port_append (e ∷ q) r p =
     let h = at_port_append q r p in
     elim (cases_Bool (e.port == p)) [
       | inl x ↦
-          (let m = cond_true (e.port == p) (suc (at_port q p)) (at_port q p) x in
-          let n = cond_true (e.port == p) (suc (at_port (q ++ r) p)) (at_port (q ++ r) p) x in
+          (let m = cond-true (e.port == p) (suc (at_port q p)) (at_port q p) x in
+          let n = cond-true (e.port == p) (suc (at_port (q ++ r) p)) (at_port (q ++ r) p) x in
           omega arith)
       | inr x ↦
           (let m = cond-false (e.port == p) (suc (at_port q p)) (at_port q p) x in
@@ -123,7 +123,7 @@ at_port_append (e ∷ q) r p =
 
 -- one entry
 pub at_port_one : (e : Entry) (p : ℕ) → e.port ≡ p → at_port (e ∷ []) p ≡ 1
-at_port_one e p h = cond_true (e.port == p) 1 0 (eq-eqb e.port p h)
+at_port_one e p h = cond-true (e.port == p) 1 0 (eq-eqb e.port p h)
 
 pub at_port_other : (e : Entry) (p : ℕ) → (e.port ≢ p) → at_port (e ∷ []) p ≡ 0
 at_port_other e p h = cond-false (e.port == p) 1 0 (ne_eqb e.port p h)
@@ -175,8 +175,8 @@ same_with (x ∷ q) e h k =
       | inl y ↦
           (let other : k ≡ x.cell → ⊥ = λ z. none_first x q e.cell h (sym y ∙ z) in
           waits_later x (q ++ e ∷ []) k other ∙ r
-          ∙ cond_true (k == e.cell) (Some (stay_of e)) (waiting_in q k) (eq-eqb k e.cell y)
-          ∙ sym (cond_true (k == e.cell) (Some (stay_of e)) (waiting_in (x ∷ q) k) (eq-eqb k e.cell y)))
+          ∙ cond-true (k == e.cell) (Some (stay_of e)) (waiting_in q k) (eq-eqb k e.cell y)
+          ∙ sym (cond-true (k == e.cell) (Some (stay_of e)) (waiting_in (x ∷ q) k) (eq-eqb k e.cell y)))
       | inr y ↦
           (let s : waiting_in (q ++ e ∷ []) k ≡ waiting_in q k = r ∙ cond-false (k == e.cell) (Some (stay_of e)) (waiting_in q k) (ne_eqb k e.cell y) in
           ap (λ o. cond (k == x.cell) (Some (stay_of x)) o) s
@@ -195,7 +195,7 @@ proper_with (x ∷ q) e h c p n =
 
 -- the entries of the other cells
 without_this : (x : Entry) (q : List Entry) (c : ℕ) → x.cell ≡ c → without (x ∷ q) c ≡ without q c
-without_this x q c h = cond_true (x.cell == c) (without q c) (x ∷ without q c) (eq-eqb x.cell c h)
+without_this x q c h = cond-true (x.cell == c) (without q c) (x ∷ without q c) (eq-eqb x.cell c h)
 
 without_other : (x : Entry) (q : List Entry) (c : ℕ) → (x.cell ≢ c) → without (x ∷ q) c ≡ x ∷ without q c
 without_other x q c h = cond-false (x.cell == c) (without q c) (x ∷ without q c) (ne_eqb x.cell c h)
@@ -214,8 +214,8 @@ same_without (x ∷ q) c k =
           (ap (λ l. waiting_in l k) (without_this x q c y) ∙ r
           ∙ elim (cases_eq k c) [
             | inl z ↦
-                cond_true (k == c) None (waiting_in q k) (eq-eqb k c z)
-                ∙ sym (cond_true (k == c) None (waiting_in (x ∷ q) k) (eq-eqb k c z))
+                cond-true (k == c) None (waiting_in q k) (eq-eqb k c z)
+                ∙ sym (cond-true (k == c) None (waiting_in (x ∷ q) k) (eq-eqb k c z))
             | inr z ↦ ap (λ o. cond (k == c) None o) (sym (waits_later x q k (λ w. z (w ∙ y))))
           ])
       | inr y ↦
@@ -258,7 +258,7 @@ at_port_removed (x ∷ q) zero p l =
     let r : at_port (remove (x ∷ q) 0) p ≡ at_port q p = refl in
     elim (cases_eq x.port p) [
       | inl y ↦
-          (let m = cond_true (x.port == p) (suc (at_port q p)) (at_port q p) (eq-eqb x.port p y) in
+          (let m = cond-true (x.port == p) (suc (at_port q p)) (at_port q p) (eq-eqb x.port p y) in
           let n : at_port (x ∷ []) p ≡ 1 = at_port_one x p y in
           omega arith)
       | inr y ↦
@@ -270,8 +270,8 @@ at_port_removed (x ∷ q) (suc i) p l =
     let h = at_port_removed q i p (omega arith) in
     elim (cases_Bool (x.port == p)) [
       | inl y ↦
-          (let m = cond_true (x.port == p) (suc (at_port q p)) (at_port q p) y in
-          let n = cond_true (x.port == p) (suc (at_port (remove q i) p)) (at_port (remove q i) p) y in
+          (let m = cond-true (x.port == p) (suc (at_port q p)) (at_port q p) y in
+          let n = cond-true (x.port == p) (suc (at_port (remove q i) p)) (at_port (remove q i) p) y in
           omega arith)
       | inr y ↦
           (let m = cond-false (x.port == p) (suc (at_port q p)) (at_port q p) y in

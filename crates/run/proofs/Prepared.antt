@@ -1,7 +1,7 @@
 -- The records, the flights and the hop log that a seal prepares.
 use Rattle.std.proofs.Common.{◌≡◌, ℕ, zero, suc, ◌+◌, ◌-◌, ◌<◌, ◌≤◌, min, Bool, true, false, leb, List, [], ◌∷◌, ◌++◌, map, length, get_or, take, drop, set, replicate, Result, sym, refl, ap, ◌∙◌, subst, inl, inr, add-one, arith, length-append, length-drop, length-set, length-take, MatchResult}
 use lib.ListN.{length-replicate, get_or-replicate}
-use Rattle.std.proofs.lemmas.List.{get_or_map, get_or_past, get_or-drop, get_or-set_same, get_or-set_other, get_or_append_left, get_or-append_right, length-map}
+use Rattle.std.proofs.lemmas.List.{get_or-map, get_or_past, get_or-drop, get_or-set_same, get_or-set_other, get_or_append_left, get_or-append_right, length-map}
 use Rattle.std.proofs.lemmas.Bool.{cases_eq, cases_lt, lt-leb}
 use Rattle.refusal.specs.Tests.{when, tested}
 use Rattle.refusal.specs.declared.Refusal.{Refusal}
@@ -24,7 +24,7 @@ pub cell_read : (xs : List Cell) (cs : List Planned) (i : ℕ) (x : Cell) → ma
     → (i < length cs) × (get_or cs i no_cell ≡ planned x)
 cell_read xs cs i x e l h = (
   omega (arith, ap length e, length-map xs planned),
-  ap (λ ys. get_or ys i no_cell) (sym e) ∙ get_or_map planned xs i x no_cell l ∙ ap planned (sym h),
+  ap (λ ys. get_or ys i no_cell) (sym e) ∙ get_or-map planned xs i x no_cell l ∙ ap planned (sym h),
 )
 
 -- all cells were read

@@ -1,6 +1,6 @@
 -- What follows where all fields have passed.
 use Rattle.std.proofs.Common.{◌≡◌, ℕ, ◌+◌, ◌-◌, ◌<◌, ◌≤◌, true, false, not, eqb, ltb, List, None, Option, sym, ◌∙◌, subst, inl, inr, arith}
-use Rattle.std.proofs.lemmas.Bool.{ltb-false, eqb-true, not_false, and_cases, eq-eqb, false≢true}
+use Rattle.std.proofs.lemmas.Bool.{ltb-false, eqb-true, not-false, and_cases, eq-eqb, false≢true}
 use Rattle.refusal.specs.declared.Refusal.{Refusal}
 use Rattle.refusal.specs.declared.Refusal.TheVariants.{BadField, BadFlow, BadIndex}
 use Rattle.refusal.specs.Tests.{when, or_else, each_below}
@@ -19,7 +19,7 @@ pub load_zero : (bs : List ℕ) (v : ℕ) → load_nonzero bs v ≡ false → ki
 load_zero bs v h k =
     elim (and_cases (eqb (kind_at bs) 1) (not (eqb v 0)) h) [
       | inl e ↦ absurd (false≢true (sym e ∙ eq-eqb (kind_at bs) 1 k))
-      | inr e ↦ eqb-true v 0 (not_false (eqb v 0) e)
+      | inr e ↦ eqb-true v 0 (not-false (eqb v 0) e)
     ]
 
 module _ (bs : List ℕ) (passed : field_tests bs ≡ None) where
@@ -55,7 +55,7 @@ module _ (bs : List ℕ) (passed : field_tests bs ≡ None) where
         subst (λ x. hop_fields bs x ≡ None) e (each_below_passes (λ k. hop_fields bs (k + 1)) (hop_count bs) (i - 1) rest_passed.1 (omega arith))
 
     pub next_fits : leads_on (hop_count bs) i (next_at bs i) ≡ true
-    next_fits = not_false _ (when_passes _ _ (or_else_passes _ _ hop_passed).0)
+    next_fits = not-false _ (when_passes _ _ (or_else_passes _ _ hop_passed).0)
 
     pub sent_zero : kind_at bs ≡ 1 → sent_at bs i ≡ 0
     sent_zero = load_zero bs (sent_at bs i) (when_passes _ (BadField (hop_offset bs i + 4)) (last_passes (when (not (leads_on (hop_count bs) i (next_at bs i))) (BadIndex (hop_offset bs i))) (when (not (eqb (byte bs (hop_offset bs i + 3)) 0)) (BadField (hop_offset bs i + 3))) _ hop_passed))

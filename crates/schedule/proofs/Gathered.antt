@@ -1,6 +1,6 @@
 -- One port, and one cell more of what has been gathered.
 use Rattle.std.proofs.Common.{◌≡◌, ℕ, ◌+◌, ◌-◌, ◌<◌, ◌≤◌, min, not, leb, List, [], ◌∷◌, ◌++◌, map, length, get_or, take, None, Option, sym, ap, ◌∙◌, subst, inl, inr, arith, w32, SFits, to_z}
-use Rattle.std.proofs.lemmas.List.{length_push, get_or_append_left, get_or_push, length-map, get_or_map, take_all}
+use Rattle.std.proofs.lemmas.List.{length_push, get_or_append_left, get_or_push, length-map, get_or-map, take_all}
 use Rattle.std.proofs.lemmas.Bool.{cases_eq, le-leb, lt-leb, le-ltb, and_from}
 use Rattle.refusal.specs.Tests.{when, or_else, each_below, Refuses}
 use Rattle.refusal.specs.declared.Refusal.{Refusal}
@@ -84,7 +84,7 @@ module _ (bs : List ℕ) (passed : field_tests bs ≡ None) (c : ℕ) (known : c
 
     -- the k-th hop
     hop_is : (j : ℕ) → j < length (chain_of bs c) → get_or (map (hop_at bs) (chain_of bs c)) j no_hop ≡ hop_at bs (get_or (chain_of bs c) j 0)
-    hop_is j l = get_or_map (hop_at bs) (chain_of bs c) j 0 no_hop l
+    hop_is j l = get_or-map (hop_at bs) (chain_of bs c) j 0 no_hop l
 
     -- the cell as the file holds it
     module _ (x : Planned) (m : Marks) (entry : x.entry ≡ entry_at bs c) (flow : x.flow ≡ flow_at bs c)

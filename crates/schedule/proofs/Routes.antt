@@ -1,6 +1,6 @@
 -- What a walk has found, as a route and as hops.
 use Rattle.std.proofs.Common.{◌≡◌, ℕ, zero, suc, ◌+◌, ◌-◌, ◌<◌, ◌≤◌, min, cond, not, leb, List, [], ◌∷◌, map, length, get_or, take, Some, None, Option, sym, refl, ap, ◌∙◌, subst, inl, inr, arith}
-use Rattle.std.proofs.lemmas.List.{ext_get_or, length-take, length-map, get_or_take, get_or_map, take_all}
+use Rattle.std.proofs.lemmas.List.{ext_get_or, length-take, length-map, get_or-take, get_or-map, take_all}
 use Rattle.std.proofs.lemmas.Bool.{cases_lt, lt-leb, and_right, ne_eqb}
 use Rattle.refusal.specs.Tests.{when, or_else}
 use Rattle.refusal.proofs.Ordered.{or_else_passes, when_passes}
@@ -30,8 +30,8 @@ kept_ports bs chain f n =
     let i9 : i < 9 = omega arith in
     let im : i < min f.len 9 = omega arith in
     let ic : i < length chain = omega arith in
-    get_or_take (min f.len 9) f.ports i 0 im ∙ n.ports i ic i9
-    ∙ sym (get_or_take 9 (map (port_at bs) chain) i 0 i9 ∙ get_or_map (port_at bs) chain i 0 0 ic))
+    get_or-take (min f.len 9) f.ports i 0 im ∙ n.ports i ic i9
+    ∙ sym (get_or-take 9 (map (port_at bs) chain) i 0 i9 ∙ get_or-map (port_at bs) chain i 0 0 ic))
 
 -- a route of more than 8 ports is refused for its length, however much longer it is
 too_long : (n c : ℕ) (r : List ℕ) → 8 < length r → route_test n c r ≡ Some (BadRouteLength c)

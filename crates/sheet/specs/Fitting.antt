@@ -7,7 +7,7 @@ use Rattle.std.specs.Coded.{coded_ℕ, coded_ℤ}
 use denote.Struct.Props.{three_prop, four_prop, ≡_prop}
 use Rattle.std.specs.Int.{w32}
 use mir.ValLaws.{SFits-prop}
-use Rattle.std.proofs.lemmas.List.{ext_get_or, length-map, get_or_map}
+use Rattle.std.proofs.lemmas.List.{ext_get_or, length-map, get_or-map}
 use Rattle.plan.specs.Cells.{Planned, no_cell, hops_in, Delays, Fitting, Cells}
 use Rattle.plan.specs.Plans.{delays_of, cells_of}
 use Rattle.plan.specs.declared.plan.Plan.{Plan}
@@ -67,7 +67,7 @@ plan_told c s ss first y t =
     let mapped = length-map y.hops (λ h. h.port) in
     let route : map (λ h. h.port) y.hops ≡ c.route = ext_get_or 0 _ _ (omega arith) (λ h l.
     let here : h < length y.hops = omega arith in
-    get_or_map (λ h. h.port) y.hops h no_hop 0 here ∙ t.port h (omega arith)) in
+    get_or-map (λ h. h.port) y.hops h no_hop 0 here ∙ t.port h (omega arith)) in
     λ i. record { entry = t.entry i; flow = t.flow i; route = route i }
 
 module _ (run : Run) (pile : Pile) (p : Plan) (xs : List ℤ) (ss : List ℕ) (x : Content)
@@ -101,7 +101,7 @@ module _ (run : Run) (pile : Pile) (p : Plan) (xs : List ℤ) (ss : List ℕ) (x
             let m = length-map x.cells plan_part in
             let here : k < length x.cells = omega arith in
             let in' : k < length (cells_of p) = omega arith in
-            let same = get_or_map plan_part x.cells k no_scheduled no_cell here ∙ plan_told _ _ _ _ _ (t.each k in') in
+            let same = get_or-map plan_part x.cells k no_scheduled no_cell here ∙ plan_told _ _ _ _ _ (t.each k in') in
             subst (λ d. Fitting d (slice_index_or (map plan_part x.cells) k no_cell)) (sym e)
             (subst (Fitting (length (delays_of p))) (sym same) (cells_fit p k in'));
         marks = marked;

@@ -1,7 +1,7 @@
 -- Loops that count the elements at the front of a list that pass a test.
 use Rattle.std.proofs.Common.{◌≡◌, ℕ, suc, ◌+◌, ◌<◌, ◌≤◌, Bool, true, false, List, ◌∷◌, length, get_or, drop, sym, ap, ◌∙◌, arith}
 use Rattle.std.proofs.lemmas.List.{at_drop_more, at_drop_all}
-use Rattle.std.proofs.lemmas.Bool.{cond_true, cond-false}
+use Rattle.std.proofs.lemmas.Bool.{cond-true, cond-false}
 use Rattle.table.specs.Order.{front}
 
 -- at the element x of the place i, with i of them counted so far
@@ -16,7 +16,7 @@ module _ {X : Type 0} (p : X → Bool) (xs : List X) (i : ℕ) (x : X) (inside :
 
   pub front_goes : p x ≡ true → i + 1 + front p (drop (i + 1) xs) ≡ front p xs
   front_goes passes =
-      let z : front p (drop i xs) ≡ suc (front p (drop (i + 1) xs)) = left ∙ cond_true (p x) (suc (front p (drop (i + 1) xs))) 0 passes in
+      let z : front p (drop i xs) ≡ suc (front p (drop (i + 1) xs)) = left ∙ cond-true (p x) (suc (front p (drop (i + 1) xs))) 0 passes in
       omega arith
 
 -- where all of them were counted

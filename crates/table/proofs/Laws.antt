@@ -5,7 +5,7 @@ use Rattle.std.specs.List.Sorted.{IsPermutation}
 use Rattle.std.proofs.ByRecursion.{All-weaker, all-has, has_shuffled, all_shuffled}
 use Rattle.std.proofs.lemmas.List.{take_all}
 use Rattle.std.proofs.lemmas.List.Sorted.{IsPermutation-refl, IsPermutation-sym, IsPermutation-trans, IsPermutation-swap, IsPermutation-cons, length_permutation}
-use Rattle.std.proofs.lemmas.Bool.{both_ways, cases_Bool, cases_lt, cond_true, cond-false}
+use Rattle.std.proofs.lemmas.Bool.{both_ways, cases_Bool, cases_lt, cond-true, cond-false}
 use Rattle.table.specs.Elements.{elements}
 use Rattle.table.specs.Order.{Lawful, Sorted, put_in, behind_equals, first_from, taken_from, LeastFrom}
 use Rattle.table.specs.declared.table.Table.{Table}
@@ -141,19 +141,19 @@ module _ {X : Type 0} (le : X → X → Bool) (e : X) where
 -- e is put in where all are before the mark m: then e is told and taken
 module _ {X : Type 0} (le : X → X → Bool) (e m : X) (here : le m e ≡ true) where
   pub first_from_put_in_none : (xs : List X) → All (λ y. le m y ≡ false) xs → first_from le m (put_in le e xs) ≡ Some e
-  first_from_put_in_none [] all = cond_true (le m e) (Some e) None here
+  first_from_put_in_none [] all = cond-true (le m e) (Some e) None here
   first_from_put_in_none (x ∷ xs) all =
       elim (le x e) as (λ b. first_from le m (cond b (x ∷ put_in le e xs) (e ∷ x ∷ xs)) ≡ Some e) [
         | true ↦ cond-false (le m x) (Some x) (first_from le m (put_in le e xs)) all.0 ∙ first_from_put_in_none xs all.1
-        | false ↦ cond_true (le m e) (Some e) (first_from le m (x ∷ xs)) here
+        | false ↦ cond-true (le m e) (Some e) (first_from le m (x ∷ xs)) here
       ]
 
   pub taken_from_put_in_none : (xs : List X) → All (λ y. le m y ≡ false) xs → taken_from le m (put_in le e xs) ≡ xs
-  taken_from_put_in_none [] all = cond_true (le m e) [] (e ∷ []) here
+  taken_from_put_in_none [] all = cond-true (le m e) [] (e ∷ []) here
   taken_from_put_in_none (x ∷ xs) all =
       elim (le x e) as (λ b. taken_from le m (cond b (x ∷ put_in le e xs) (e ∷ x ∷ xs)) ≡ x ∷ xs) [
         | true ↦ cond-false (le m x) (put_in le e xs) (x ∷ taken_from le m (put_in le e xs)) all.0 ∙ ap (λ l. x ∷ l) (taken_from_put_in_none xs all.1)
-        | false ↦ cond_true (le m e) (x ∷ xs) (e ∷ taken_from le m (x ∷ xs)) here
+        | false ↦ cond-true (le m e) (x ∷ xs) (e ∷ taken_from le m (x ∷ xs)) here
       ]
 
 -- filters that keep nothing and all
@@ -163,7 +163,7 @@ none_kept p (x ∷ xs) all = cond-false (p x) (x ∷ filter p xs) (filter p xs) 
 
 all_kept : {X : Type 0} (p : X → Bool) (xs : List X) → All (λ y. p y ≡ true) xs → filter p xs ≡ xs
 all_kept p [] all = refl
-all_kept p (x ∷ xs) all = cond_true (p x) (x ∷ filter p xs) (filter p xs) all.0 ∙ ap (λ l. x ∷ l) (all_kept p xs all.1)
+all_kept p (x ∷ xs) all = cond-true (p x) (x ∷ filter p xs) (filter p xs) all.0 ∙ ap (λ l. x ∷ l) (all_kept p xs all.1)
 
 -- in a total order
 module _ {X : Type 0} (le : X → X → Bool) (o : Lawful le) where
@@ -230,13 +230,13 @@ module _ {X : Type 0} (le : X → X → Bool) (o : Lawful le) where
           at : le m y ≡ true → first_from le m (put_in le e (y ∷ xs)) ≡ Some (cond (le y e) y e)
           at h =
               elim (le y e) as (λ b. first_from le m (cond b (y ∷ put_in le e xs) (e ∷ y ∷ xs)) ≡ Some (cond b y e)) [
-                | true ↦ cond_true (le m y) (Some y) (first_from le m (put_in le e xs)) h
-                | false ↦ cond_true (le m e) (Some e) (first_from le m (y ∷ xs)) here
+                | true ↦ cond-true (le m y) (Some y) (first_from le m (put_in le e xs)) h
+                | false ↦ cond-true (le m e) (Some e) (first_from le m (y ∷ xs)) here
               ]
 
           past : le m y ≡ false → first_from le m xs ≡ Some x → first_from le m (put_in le e xs) ≡ Some (cond (le x e) x e) → first_from le m (put_in le e (y ∷ xs)) ≡ Some (cond (le x e) x e)
           past h told more =
               (elim (le y e) as (λ b. le y e ≡ b → first_from le m (cond b (y ∷ put_in le e xs) (e ∷ y ∷ xs)) ≡ Some (cond (le x e) x e)) [
                 | true ↦ λ k. cond-false (le m y) (Some y) (first_from le m (put_in le e xs)) h ∙ more
-                | false ↦ λ k. cond_true (le m e) (Some e) (first_from le m (y ∷ xs)) here ∙ ap Some (sym (cond-false (le x e) x e (later y xs s.0 told k)))
+                | false ↦ λ k. cond-true (le m e) (Some e) (first_from le m (y ∷ xs)) here ∙ ap Some (sym (cond-false (le x e) x e (later y xs s.0 told k)))
               ]) refl

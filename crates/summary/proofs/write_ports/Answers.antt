@@ -1,7 +1,7 @@
 use Rattle.std.proofs.Common.{◌≡◌, ℕ, ◌+◌, Bool, true, false, List, [], ◌∷◌, ◌++◌, get_or, string_bytes, sym, refl, ap, ◌∙◌, add-one}
 use Rattle.std.specs.List.{flat_map}
 use Rattle.std.proofs.lemmas.List.{flat_map_more}
-use Rattle.std.proofs.lemmas.Bool.{cond_true, cond-false}
+use Rattle.std.proofs.lemmas.Bool.{cond-true, cond-false}
 use Rattle.plan.specs.Plans.{delays_of}
 use Rattle.run.specs.Asking.{port_test}
 use Rattle.summary.specs.Summaries.{port_part, nonempty, flagged}
@@ -15,7 +15,7 @@ nonempty_push (y ∷ ys) x = refl
 
 module _ (flags : List Bool) (i : ℕ) where
   flagged_more : get_or flags i false ≡ true → flagged flags (i + 1) ≡ flagged flags i ++ i ∷ []
-  flagged_more h = rw add-one (cond_true (get_or flags i false) _ _ h)
+  flagged_more h = rw add-one (cond-true (get_or flags i false) _ _ h)
 
   flagged_same : get_or flags i false ≡ false → flagged flags (i + 1) ≡ flagged flags i
   flagged_same h = rw add-one (cond-false (get_or flags i false) _ _ h)

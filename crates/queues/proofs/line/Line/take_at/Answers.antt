@@ -1,5 +1,5 @@
 use Rattle.std.proofs.Common.{◌≡◌, ℕ, ◌<◌, length, get_or, sym, ap, arith, rules}
-use Rattle.std.proofs.lemmas.List.{get_or_take}
+use Rattle.std.proofs.lemmas.List.{get_or-take}
 use Rattle.queues.specs.Entries.{no_entry}
 use Rattle.queues.specs.Lines.{queue}
 use Rattle.queues.specs.declared.line.Line.{Line}
@@ -70,6 +70,6 @@ returns c =
     let wide : length l.counts ≡ 32 = search rules in
     let in' = inside l c.args.at c.requires in
     record {
-      cell = sym (ap (λ x. x.cell) (get_or_take l.len l.entries c.args.at no_entry in'));
+      cell = sym (ap (λ x. x.cell) (get_or-take l.len l.entries c.args.at no_entry in'));
       left = gone_is l long wide c.args.at in' c.close_at.new.places c.close_at.ensures;
     }

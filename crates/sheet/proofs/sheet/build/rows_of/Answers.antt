@@ -1,5 +1,5 @@
 use Rattle.std.proofs.Common.{◌≡◌, ℕ, ◌+◌, ◌<◌, List, map, length, get_or, take, ℤ, pos, sym, ap, ◌∙◌, subst, arith, w32, SFits, rules, below_more}
-use Rattle.std.proofs.lemmas.List.{length-set, length-map, get_or_map}
+use Rattle.std.proofs.lemmas.List.{length-set, length-map, get_or-map}
 use Rattle.std.proofs.lemmas.Int.{to_z-of_z}
 use Rattle.plan.specs.Cells.{Planned, ports_of, planned, no_cell, hops_in}
 use Rattle.plan.specs.declared.cell.Cell.{Cell}
@@ -12,7 +12,7 @@ use Rattle.sheet.proofs.sheet.build.rows_of.Goals as goal
 module _ (cells : List Cell) (k : ℕ) (cell : Cell) (l : k < length cells) (is : cell ≡ get_or cells k cell) where
   -- the cell with the number k
   here : get_or (map planned cells) k no_cell ≡ planned cell
-  here = get_or_map planned cells k cell no_cell l ∙ ap planned (sym is)
+  here = get_or-map planned cells k cell no_cell l ∙ ap planned (sym is)
 
   -- its hops stand behind those of the cells before it
   more : hops_in (take (k + 1) (map planned cells)) ≡ hops_in (take k (map planned cells)) + length (ports_of cell.route)

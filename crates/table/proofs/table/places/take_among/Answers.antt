@@ -1,5 +1,5 @@
 use Rattle.std.proofs.Common.{◌≡◌, ◌-◌, length, get_or, take, Some, sym, refl, ap, ◌∙◌, arith}
-use Rattle.std.proofs.lemmas.List.{get_or_take, length-take-le}
+use Rattle.std.proofs.lemmas.List.{get_or-take, length-take-le}
 use Rattle.table.proofs.Places.{before, first_from_at, first_from_past, take_elements, take_rest}
 use Rattle.table.proofs.table.places.take_among.Goals as goal
 
@@ -31,7 +31,7 @@ returns g c =
     let n : length (take len xs) ≡ len = length-take-le len xs (omega arith) in
     record {
       value =
-          ap Some (c.index-places-at.is ∙ sym (get_or_take len xs r x c.if-at-len.false) ∙ ap (λ k. get_or (take len xs) k x) at)
+          ap Some (c.index-places-at.is ∙ sym (get_or-take len xs r x c.if-at-len.false) ∙ ap (λ k. get_or (take len xs) k x) at)
           ∙ sym (first_from_at le m (take len xs) x (omega arith));
       done = (
         omega arith,
