@@ -50,7 +50,7 @@ def turn(path, names):
     for line in re.findall(r"\.(?:Goals|Given)\.\{([^}]*)\}", text):
         mine.update(x.strip() for x in line.split(","))
     mine.update(x for x in re.findall(r"[^\s(){}\[\],;:]\.([^\s(){}\[\],;.:`\"]+)", text) if "-" in x)
-    mine.update(re.findall(r"\b(?:record \{|;)\s*([^\s(){}\[\],;.:`\"]*-[^\s(){}\[\],;.:`\"]*) =", text))
+    mine.update(re.findall(r"(?:record \{|;)\s*([^\s(){}\[\],;.:`\"]*-[^\s(){}\[\],;.:`\"]*) =", text))
     mine = {m for m in mine if "-" in m}
     new = TOKEN.sub(lambda m: turned(m.group(0), names) if m.group(0) in mine else m.group(0), text)
     if new != text:

@@ -14,7 +14,7 @@ use refusal::Refusal;
 
 // How long the canonical file of a schedule is.
 pub fn file_length<S: Source>(s: &S) -> usize
-    ensures { result ≡ canonical_length (content s.now) }
+    ensures { result ≡ canonical_length (S.content s.now) }
 {
     bytes_for(s.ports(), s.cells(), s.hops())
 }
@@ -22,8 +22,8 @@ pub fn file_length<S: Source>(s: &S) -> usize
 // Writes the canonical file of a schedule to the front of the output, and returns its length. An output that is too
 // short is refused before anything is written. What is written reads back as itself.
 pub fn write<S: Source>(s: &S, out: &mut [u8]) -> Result<usize, Refusal>
-    ensures written { Written (content s.now) out.old result out.new }
-    ensures reads_back { ReadsBack (content s.now) }
+    ensures written { Written (S.content s.now) out.old result out.new }
+    ensures reads_back { ReadsBack (S.content s.now) }
 {
     let length = file_length(s);
     if out.len() < length {
@@ -76,7 +76,7 @@ fn pile_byte(pile: Pile) -> u8
 
 // The head of a file: kind, pile, and how many ports, cells and hops follow.
 fn head<S: Source>(s: &S) -> [u8; 8]
-    ensures { result ≡ head_bytes (content s.now) }
+    ensures { result ≡ head_bytes (S.content s.now) }
 {
     let [p0, p1] = (s.ports() as u16).to_be_bytes();
     let [c0, c1] = (s.cells() as u16).to_be_bytes();
@@ -95,8 +95,8 @@ fn head<S: Source>(s: &S) -> [u8; 8]
 
 // Writes the delays of all ports behind the 8 bytes of the head.
 fn put_ports<S: Source>(s: &S, out: &mut [u8])
-    requires { cells_start (content s.now) ≤ length out.old }
-    ensures { out.new ≡ placed out.old 8 (flat_map word_bytes (content s.now).delays) }
+    requires { cells_start (S.content s.now) ≤ length out.old }
+    ensures { out.new ≡ placed out.old 8 (flat_map word_bytes (S.content s.now).delays) }
 {
     for p in 0..s.ports() {
         let delay = u16::from(s.delay(p));
@@ -106,8 +106,8 @@ fn put_ports<S: Source>(s: &S, out: &mut [u8])
 
 // Writes the records of all cells behind the ports.
 fn put_cells<S: Source>(s: &S, out: &mut [u8])
-    requires { hop_start (content s.now) 0 ≤ length out.old }
-    ensures { out.new ≡ placed out.old (cells_start (content s.now)) (flat_map cell_bytes (cell_records 1 (content s.now).cells)) }
+    requires { hop_start (S.content s.now) 0 ≤ length out.old }
+    ensures { out.new ≡ placed out.old (cells_start (S.content s.now)) (flat_map cell_bytes (cell_records 1 (S.content s.now).cells)) }
 {
     let ports = s.ports();
     let mut first = 1;
@@ -130,8 +130,8 @@ fn cell_record(cell: CellFields, first: u16) -> [u8; 10]
 
 // Writes the records of all hops behind the cells, route by route.
 fn put_hops<S: Source>(s: &S, out: &mut [u8])
-    requires { hop_start (content s.now) (total_hops (content s.now).cells) ≤ length out.old }
-    ensures { out.new ≡ placed out.old (hop_start (content s.now) 0) (flat_map hop_bytes (hop_records 1 (content s.now).cells)) }
+    requires { hop_start (S.content s.now) (total_hops (S.content s.now).cells) ≤ length out.old }
+    ensures { out.new ≡ placed out.old (hop_start (S.content s.now) 0) (flat_map hop_bytes (hop_records 1 (S.content s.now).cells)) }
 {
     let mut before = 0;
     for c in 0..s.cells() {
@@ -142,9 +142,9 @@ fn put_hops<S: Source>(s: &S, out: &mut [u8])
 
 // Writes the hop records of one cell, with `before` records of other cells before them.
 fn put_route<S: Source>(s: &S, cell: usize, before: usize, out: &mut [u8])
-    requires cell_bound { before + length (hops_of (content s.now) cell) ≤ 2048 }
-    requires cell_in_bounds { hop_start (content s.now) (before + length (hops_of (content s.now) cell)) ≤ length out.old }
-    ensures { out.new ≡ placed out.old (hop_start (content s.now) before) (flat_map hop_bytes (route_records (1 + before) (hops_of (content s.now) cell))) }
+    requires cell_bound { before + length (hops_of (S.content s.now) cell) ≤ 2048 }
+    requires cell_in_bounds { hop_start (S.content s.now) (before + length (hops_of (S.content s.now) cell)) ≤ length out.old }
+    ensures { out.new ≡ placed out.old (hop_start (S.content s.now) before) (flat_map hop_bytes (route_records (1 + before) (hops_of (S.content s.now) cell))) }
 {
     let start = bytes_for(s.ports(), s.cells(), before);
     let hops = s.cell(cell).hops;

@@ -29,7 +29,7 @@ fn write_hop(text: &mut String, kind: Kind, hop: HopFields) -> fmt::Result
 
 // Writes the route of a cell, hop by hop.
 fn write_route<S: Source>(text: &mut String, s: &S, cell: usize) -> fmt::Result
-    ensures { OnOk result (string_bytes text.new ≡ string_bytes text.old ++ route_part (content s.now).kind (get_or (content s.now).cells cell no_scheduled).hops) }
+    ensures { OnOk result (string_bytes text.new ≡ string_bytes text.old ++ route_part (S.content s.now).kind (get_or (S.content s.now).cells cell no_scheduled).hops) }
 {
     let kind = s.kind();
     write!(text, " route")?;
@@ -41,7 +41,7 @@ fn write_route<S: Source>(text: &mut String, s: &S, cell: usize) -> fmt::Result
 
 // Writes the line of a cell.
 pub(crate) fn write_cell<S: Source>(text: &mut String, s: &S, cell: usize) -> fmt::Result
-    ensures { OnOk result (string_bytes text.new ≡ string_bytes text.old ++ cell_line (content s.now).kind cell (slice_index_or (content s.now).cells cell no_scheduled)) }
+    ensures { OnOk result (string_bytes text.new ≡ string_bytes text.old ++ cell_line (S.content s.now).kind cell (slice_index_or (S.content s.now).cells cell no_scheduled)) }
 {
     let fields = s.cell(cell);
     write!(

@@ -43,7 +43,7 @@ fn write_head(text: &mut String, kind: Kind, pile: Pile) -> fmt::Result
 
 // Writes a line for each port.
 fn write_ports<S: Source>(text: &mut String, s: &S) -> fmt::Result
-    ensures { OnOk result (string_bytes text.new ≡ string_bytes text.old ++ lines_from port_line 0 (content s.now).delays) }
+    ensures { OnOk result (string_bytes text.new ≡ string_bytes text.old ++ lines_from port_line 0 (S.content s.now).delays) }
 {
     for port in 0..s.ports() {
         writeln!(text, "port {port} delay {}", s.delay(port))?;
@@ -53,7 +53,7 @@ fn write_ports<S: Source>(text: &mut String, s: &S) -> fmt::Result
 
 // Writes a line for each cell.
 fn write_cells<S: Source>(text: &mut String, s: &S) -> fmt::Result
-    ensures { OnOk result (string_bytes text.new ≡ string_bytes text.old ++ lines_from (cell_line (content s.now).kind) 0 (content s.now).cells) }
+    ensures { OnOk result (string_bytes text.new ≡ string_bytes text.old ++ lines_from (cell_line (S.content s.now).kind) 0 (S.content s.now).cells) }
 {
     for cell in 0..s.cells() {
         write_cell(text, s, cell)?;
@@ -63,7 +63,7 @@ fn write_cells<S: Source>(text: &mut String, s: &S) -> fmt::Result
 
 // Writes the whole text.
 fn write_all<S: Source>(text: &mut String, s: &S) -> fmt::Result
-    ensures { OnOk result (string_bytes text.new ≡ string_bytes text.old ++ listed (content s.now)) }
+    ensures { OnOk result (string_bytes text.new ≡ string_bytes text.old ++ listed (S.content s.now)) }
 {
     write_head(text, s.kind(), s.pile())?;
     write_ports(text, s)?;
@@ -72,7 +72,7 @@ fn write_all<S: Source>(text: &mut String, s: &S) -> fmt::Result
 
 // The text, or an error where there is no memory for it.
 pub fn listing<S: Source>(heap: Global, s: &S) -> Result<String, AllocError>
-    ensures { IfOk result (λ t. string_bytes t ≡ listed (content s.now)) }
+    ensures { IfOk result (λ t. string_bytes t ≡ listed (S.content s.now)) }
 {
     let mut text = String::new(heap);
     match write_all(&mut text, s) {

@@ -13,7 +13,7 @@ put_route-requires g c =
     let fit = g.met.S.Source.fits c.args.s.now in
     let part = before_few x fit c.loop-c.c (omega arith) in
     let few = total_few x fit in
-    (omega arith, omega arith)
+    record { cell_bound = omega arith; cell_in_bounds = omega arith }
 
 pub overflow_add-before : goal.overflow_add-before
 overflow_add-before g c =

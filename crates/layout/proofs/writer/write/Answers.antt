@@ -33,8 +33,8 @@ returns g c =
     let all =
     all_written x out (omega arith) (c.put.ensures ∙ ap (placed out 0) c.head.ensures) c.put_ports.ensures
     c.put_cells.ensures c.put_hops.ensures in
-    record { written = (c.file_length-length.ensures, rw c.file_length-length.ensures all); reads-back = every_content_reads_back x (g.met.S.Source.fits c.args.s.now) }
+    record { written = (c.file_length-length.ensures, rw c.file_length-length.ensures all); reads_back = every_content_reads_back x (g.met.S.Source.fits c.args.s.now) }
 
 pub returns-then-out-length : goal.returns-then-out-length
 returns-then-out-length g c =
-    record { written = (refl, omega arith, refl); reads-back = every_content_reads_back _ (g.met.S.Source.fits c.args.s.now) }
+    record { written = (refl, omega arith, refl); reads_back = every_content_reads_back _ (g.met.S.Source.fits c.args.s.now) }
