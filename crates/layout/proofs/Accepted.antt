@@ -61,9 +61,9 @@ module _ (x : Content) (fit : Fit x) where
       let taken : not (takes a (kind_at bs)) ≡ false = not_from_true _ (ap (takes a) (kind_is x) ∙ t) in
       let piled : ltb 2 (pile_at bs) ≡ false = le-ltb 2 (pile_at bs) (rw (pile_is x) (pile_few x.pile)) in
       let has_ports : not (within 1 32 (port_count bs)) ≡ false =
-      within_passes 1 32 (port_count bs) (rw ports fit.has_ports) (rw ports fit.few_ports_lem) in
+      within_passes 1 32 (port_count bs) (rw ports fit.has_ports) (rw ports fit.few_ports) in
       let has_cells : not (within 1 256 (cell_count bs)) ≡ false =
-      within_passes 1 256 (cell_count bs) (rw cells fit.has_cells) (rw cells fit.few_cells_lem) in
+      within_passes 1 256 (cell_count bs) (rw cells fit.has_cells) (rw cells fit.few_cells) in
       let few_hops : ltb 2048 (hop_count bs) ≡ false = le-ltb 2048 (hop_count bs) (rw hops few) in
       let sized : not (eqb (length bs) (file_length_lem (port_count bs) (cell_count bs) (hop_count bs))) ≡ false =
       not_from_true _ (eq-eqb (length bs) _ (rw (ports, cells, hops) size)) in

@@ -94,13 +94,13 @@ module _ (x : Content) (fit : Fit x) where
   pub ports_is : port_count (canonical x) ≡ length x.delays
   unfolding canonical
   ports_is =
-      let a = fit.few_ports_lem in
+      let a = fit.few_ports in
       word_stands (canonical x) 2 (length x.delays) (omega arith) (_, refl)
 
   pub cells_is : cell_count (canonical x) ≡ length x.cells
   unfolding canonical
   cells_is =
-      let a = fit.few_cells_lem in
+      let a = fit.few_cells in
       word_stands (canonical x) 4 (length x.cells) (omega arith) (_, refl)
 
   pub hops_is : hop_count (canonical x) ≡ total_hops x.cells

@@ -56,7 +56,7 @@ module _ (x : Content) (fit : Fit x) where
   pub total_few : total_hops x.cells ≤ 2048
   total_few =
       let a = total_hops_le x.cells hops_few in
-      let b = fit.few_cells_lem in
+      let b = fit.few_cells in
       omega arith
 
   -- the cells before c and c itself have no more hops than all

@@ -64,9 +64,9 @@ Marked k c =
 -- the contents that a file can hold: 1 to 32 ports, 1 to 256 cells, each as a plan keeps it and marked
 pub record Fit (x : Content) : Type 0 where
   pub has_ports : 0 < length x.delays
-  pub few_ports_lem : length x.delays ≤ 32
+  pub few_ports : length x.delays ≤ 32
   pub delays : Delays x.delays
   pub has_cells : 0 < length x.cells
-  pub few_cells_lem : length x.cells ≤ 256
+  pub few_cells : length x.cells ≤ 256
   pub cells : Cells (length x.delays) (map plan_part x.cells)
   pub marks : (c : ℕ) → c < length x.cells → Marked x.kind (slice_index_or x.cells c no_scheduled)

@@ -2,13 +2,8 @@
 use Rattle.std.specs.Prelude.{◌≡◌, ℕ, zero, suc, ◌<◌, ◌≤◌, List, [], ◌∷◌, map, length, get_or, vec_items, slice_index, slice_index_or, refl}
 use Rattle.std.proofs.Common.{sym, ap, subst, ◌∙◌, arith}
 use Rattle.std.proofs.lemmas.List.{get_or_default, get_or_read, get_or_past}
-use Rattle.std.proofs.Math.Bridge.{le_prop}
 use Rattle.std.proofs.Math.Logic.{∥∥₁_elim}
-use std.HLevel.{Π_prop}
-use Rattle.std.specs.Int.{w32}
-use mir.ValLaws.{SFits-prop}
-use Rattle.std.specs.Coded.{coded_ℕ, coded_ℤ}
-use denote.Struct.Props.{four_prop, ≡_prop}
+use denote.Struct.Props.{props}
 use Rattle.plan.specs.Cells.{Planned, no_cell, hops_in, Cells}
 use Rattle.layout.specs.Contents.{Scheduled, Fit, Marked, no_hop, no_scheduled, plan_part, total_hops, kind_number, pile_number}
 use Rattle.layout.specs.Fields.{kind_at, pile_at, cell_count}
@@ -89,9 +84,7 @@ held_whole bs k p ds cs ms kind pile g =
 
 -- that a cell is marked as its kind asks has one proof at most
 marked_prop : (k : Kind) (x : Scheduled) → IsProp (Marked k x)
-marked_prop k x =
-    four_prop (SFits-prop w32 x.slack) (Π_prop λ j. Π_prop λ l. le_prop) (Π_prop λ e. ≡_prop coded_ℤ _ _)
-    (Π_prop λ e. Π_prop λ j. Π_prop λ l. ≡_prop coded_ℕ _ _)
+marked_prop k x = hlevel props
 
 -- what every schedule holds can be held by a file
 module _ (s : Schedule) where
@@ -102,10 +95,10 @@ module _ (s : Schedule) where
   fits =
       record {
         has_ports = s.some_ports;
-        few_ports_lem = few_ports_lem s.plan;
+        few_ports = few_ports_lem s.plan;
         delays = delays_fit_lem s.plan;
         has_cells = let n = length_timed _ _ as_many in let m = s.some_cells in omega arith;
-        few_cells_lem = let n = length_timed _ _ as_many in let m = few_cells_lem s.plan in omega arith;
+        few_cells = let n = length_timed _ _ as_many in let m = few_cells_lem s.plan in omega arith;
         cells = subst (Cells (length (delays_of s.plan))) (sym (plan_parts _ _ as_many)) (cells_fit s.plan);
         marks = λ c l.
             let n = length_timed _ _ as_many in

@@ -28,9 +28,9 @@ pub record Headed (bs : List ℕ) (h : Head) : Type 0 where
   pub cells : h.cells ≡ cell_count bs
   pub hops : h.hops ≡ hop_count bs
   pub has_ports : 0 < h.ports
-  pub few_ports_lem : h.ports ≤ 32
+  pub few_ports : h.ports ≤ 32
   pub has_cells : 0 < h.cells
-  pub few_cells_lem : h.cells ≤ 256
+  pub few_cells : h.cells ≤ 256
   pub few_hops : h.hops ≤ 2048
   pub whole : length bs ≡ file_length_lem h.ports h.cells h.hops
 

@@ -2,11 +2,9 @@
 use Rattle.std.specs.Prelude.{◌≡◌, ℕ, ◌+◌, ◌<◌, List, map, length, get_or, take, ℤ, FitsSigned, ◌≢◌, slice_index, slice_index_or}
 use Rattle.std.proofs.Common.{sym, ap, subst, ◌∙◌, arith, Fits}
 use Rattle.std.proofs.Math.Bridge.{le_prop}
-use std.HLevel.{Π_prop, ⊥_prop}
-use Rattle.std.specs.Coded.{coded_ℕ, coded_ℤ}
-use denote.Struct.Props.{three_prop, four_prop, ≡_prop}
+use std.HLevel.{Π_prop}
+use denote.Struct.Props.{props}
 use Rattle.std.specs.Int.{w32}
-use mir.ValLaws.{SFits-prop}
 use Rattle.std.proofs.lemmas.List.{ext_get_or, length-map, get_or-map}
 use Rattle.plan.specs.Cells.{Planned, no_cell, hops_in, Delays, Fitting, Cells}
 use Rattle.plan.specs.Plans.{delays_of, cells_of}
@@ -22,19 +20,13 @@ use Rattle.sheet.specs.declared.run.Run.{Run}
 use Rattle.sheet.specs.declared.run.Run.TheVariants.{Recording, Replay}
 
 marked_prop : (k : Kind) (x : Scheduled) → IsProp (Marked k x)
-marked_prop k x =
-    four_prop (SFits-prop w32 x.slack) (Π_prop λ j. Π_prop λ l. le_prop) (Π_prop λ e. ≡_prop coded_ℤ _ _)
-    (Π_prop λ e. Π_prop λ j. Π_prop λ l. ≡_prop coded_ℕ _ _)
+marked_prop k x = hlevel props
 
 delays_prop : (ds : List ℕ) → IsProp (Delays ds)
 delays_prop ds = Π_prop λ p. Π_prop λ l. λ a b i. (le_prop a.0 b.0 i, le_prop a.1 b.1 i)
 
 fitting_prop : (n : ℕ) (c : Planned) → IsProp (Fitting n c)
-fitting_prop n c =
-    three_prop le_prop le_prop
-    (four_prop le_prop le_prop
-    (Π_prop λ i. Π_prop λ l. le_prop)
-    (Π_prop λ i. Π_prop λ j. Π_prop λ l. Π_prop λ m. Π_prop λ e. ⊥_prop))
+fitting_prop n c = hlevel props
 
 cells_prop : (n : ℕ) (cs : List Planned) → IsProp (Cells n cs)
 cells_prop n cs = Π_prop λ k. Π_prop λ l. fitting_prop n (slice_index_or cs k no_cell)
@@ -47,10 +39,10 @@ pub fit_prop : (x : Content) → IsProp (Fit x)
 fit_prop x a b =
     λ i. record {
       has_ports = le_prop a.has_ports b.has_ports i;
-      few_ports_lem = le_prop a.few_ports_lem b.few_ports_lem i;
+      few_ports = le_prop a.few_ports b.few_ports i;
       delays = delays_prop _ a.delays b.delays i;
       has_cells = le_prop a.has_cells b.has_cells i;
-      few_cells_lem = le_prop a.few_cells_lem b.few_cells_lem i;
+      few_cells = le_prop a.few_cells b.few_cells i;
       cells = cells_prop _ _ a.cells b.cells i;
       marks = marks_prop x a.marks b.marks i;
     }
@@ -93,10 +85,10 @@ module _ (run : Run) (pile : Pile) (p : Plan) (xs : List ℤ) (ss : List ℕ) (x
       let port = first.2 0 first.0 in
       record {
         has_ports = omega arith;
-        few_ports_lem = let few = few_ports_lem p in omega arith;
+        few_ports = let few = few_ports_lem p in omega arith;
         delays = subst Delays (sym t.delays) (delays_fit_lem p);
         has_cells = omega arith;
-        few_cells_lem = let few = few_cells_lem p in omega arith;
+        few_cells = let few = few_cells_lem p in omega arith;
         cells = λ k l.
             let m = length-map x.cells plan_part in
             let here : k < length x.cells = omega arith in

@@ -21,7 +21,7 @@ returns-in_err-reach c =
     let w = c.loop-index.invariant in
     let more : 0 < c.loop-index.index = omega arith in
     let a = w.index in
-    let b = w.flags-long in
+    let b = w.flags_long in
     let in' : c.loop-index.index < length c.loop-index.seen = omega arith in
     rw (p.1, p.2, h.1) (stops _ _ _ _ _ _ w more in' h.0)
 
@@ -32,7 +32,7 @@ loop-index-preserved c =
     let w = c.loop-index.invariant in
     let more : 0 < i = omega arith in
     let a = w.index in
-    let b = w.flags-long in
+    let b = w.flags_long in
     let in' : i < length c.loop-index.seen = omega arith in
     let h = c.in_ok-reach.ensures in
     let r = c.hop-hop.ensures in

@@ -53,19 +53,13 @@ invariant_of-result c =
     let has_ports = head.has_ports in
     let has_cells = head.has_cells in
     let ports_are = head.ports in
-    let cells_are = head.cells in (
-      omega arith,
-      (
-        omega arith,
-        (
-          marks.ok.0 ∙ g.marks ∙ sym g.cells,
-          (
-            ∣ (λ i l. g.marked i (omega arith)) ∣₁,
-            tt,
-          ),
-        ),
-      ),
-    )
+    let cells_are = head.cells in
+    record {
+      some_ports = omega arith;
+      some_cells = omega arith;
+      each_marked = marks.ok.0 ∙ g.marks ∙ sym g.cells;
+      marks_fit = ∣ (λ i l. g.marked i (omega arith)) ∣₁;
+    }
 
 pub returns : goal.returns
 unfolding first_refusal
