@@ -4,10 +4,10 @@ ghost use Rattle.layout.specs.Contents.{no_scheduled};
 ghost use Rattle.listing.specs.Listed.{slack_part, hop_part, route_part, cell_line};
 
 use layout::{HopFields, Kind, Source};
-use std::fmt;
+use std::alloc::AllocError;
 
 // Writes a slack, which a load does not have.
-fn write_slack(text: &mut String, kind: Kind, slack: i32) -> fmt::Result
+fn write_slack(text: &mut String, kind: Kind, slack: i32) -> Result<(), AllocError>
     ensures { OnOk result (string_bytes text.new ≡ string_bytes text.old ++ slack_part kind slack) }
 {
     match kind {
@@ -17,7 +17,7 @@ fn write_slack(text: &mut String, kind: Kind, slack: i32) -> fmt::Result
 }
 
 // Writes a hop: its port, and behind it the slot in which the cell was sent, which a load does not have.
-fn write_hop(text: &mut String, kind: Kind, hop: HopFields) -> fmt::Result
+fn write_hop(text: &mut String, kind: Kind, hop: HopFields) -> Result<(), AllocError>
     ensures { OnOk result (string_bytes text.new ≡ string_bytes text.old ++ hop_part kind hop.port hop.sent) }
 {
     let HopFields { port, sent } = hop;
@@ -28,7 +28,7 @@ fn write_hop(text: &mut String, kind: Kind, hop: HopFields) -> fmt::Result
 }
 
 // Writes the route of a cell, hop by hop.
-fn write_route<S: Source>(text: &mut String, s: &S, cell: usize) -> fmt::Result
+fn write_route<S: Source>(text: &mut String, s: &S, cell: usize) -> Result<(), AllocError>
     ensures { OnOk result (string_bytes text.new ≡ string_bytes text.old ++ route_part (S.content s.now).kind (get_or (S.content s.now).cells cell no_scheduled).hops) }
 {
     let kind = s.kind();
@@ -40,7 +40,7 @@ fn write_route<S: Source>(text: &mut String, s: &S, cell: usize) -> fmt::Result
 }
 
 // Writes the line of a cell.
-pub(crate) fn write_cell<S: Source>(text: &mut String, s: &S, cell: usize) -> fmt::Result
+pub(crate) fn write_cell<S: Source>(text: &mut String, s: &S, cell: usize) -> Result<(), AllocError>
     ensures { OnOk result (string_bytes text.new ≡ string_bytes text.old ++ cell_line (S.content s.now).kind cell (slice_index_or (S.content s.now).cells cell no_scheduled)) }
 {
     let fields = s.cell(cell);

@@ -9,7 +9,6 @@ ghost use Rattle.listing.specs.Listed.{kind_word_lem, pile_words_lem, kind_line,
 use crate::cell::write_cell;
 use layout::{Kind, Pile, Source};
 use std::alloc::{AllocError, Global};
-use std::fmt;
 
 // The word for a kind.
 fn kind_word(kind: Kind) -> &'static str
@@ -34,7 +33,7 @@ fn pile_words(pile: Pile) -> &'static str
 }
 
 // Writes the first two lines: what kind of schedule it is, and the queue discipline.
-fn write_head(text: &mut String, kind: Kind, pile: Pile) -> fmt::Result
+fn write_head(text: &mut String, kind: Kind, pile: Pile) -> Result<(), AllocError>
     ensures { OnOk result (string_bytes text.new ≡ string_bytes text.old ++ (kind_line kind ++ pile_line pile)) }
 {
     writeln!(text, "kind {}", kind_word(kind))?;
@@ -42,7 +41,7 @@ fn write_head(text: &mut String, kind: Kind, pile: Pile) -> fmt::Result
 }
 
 // Writes a line for each port.
-fn write_ports<S: Source>(text: &mut String, s: &S) -> fmt::Result
+fn write_ports<S: Source>(text: &mut String, s: &S) -> Result<(), AllocError>
     ensures { OnOk result (string_bytes text.new ≡ string_bytes text.old ++ lines_from port_line 0 (S.content s.now).delays) }
 {
     for port in 0..s.ports() {
@@ -52,7 +51,7 @@ fn write_ports<S: Source>(text: &mut String, s: &S) -> fmt::Result
 }
 
 // Writes a line for each cell.
-fn write_cells<S: Source>(text: &mut String, s: &S) -> fmt::Result
+fn write_cells<S: Source>(text: &mut String, s: &S) -> Result<(), AllocError>
     ensures { OnOk result (string_bytes text.new ≡ string_bytes text.old ++ lines_from (cell_line (S.content s.now).kind) 0 (S.content s.now).cells) }
 {
     for cell in 0..s.cells() {
@@ -62,7 +61,7 @@ fn write_cells<S: Source>(text: &mut String, s: &S) -> fmt::Result
 }
 
 // Writes the whole text.
-fn write_all<S: Source>(text: &mut String, s: &S) -> fmt::Result
+fn write_all<S: Source>(text: &mut String, s: &S) -> Result<(), AllocError>
     ensures { OnOk result (string_bytes text.new ≡ string_bytes text.old ++ listed (S.content s.now)) }
 {
     write_head(text, s.kind(), s.pile())?;
@@ -75,8 +74,6 @@ pub fn listing<S: Source>(heap: Global, s: &S) -> Result<String, AllocError>
     ensures { IfOk result (λ t. string_bytes t ≡ listed (S.content s.now)) }
 {
     let mut text = String::new(heap);
-    match write_all(&mut text, s) {
-        Ok(()) => Ok(text),
-        Err(_) => Err(AllocError),
-    }
+    write_all(&mut text, s)?;
+    Ok(text)
 }
