@@ -26,7 +26,7 @@ NAME = re.compile(r"\b[A-Za-z][A-Za-z0-9]*(?:_[A-Za-z0-9]+)+\b")
 
 
 def names_of_code(crate):
-    found = set()
+    found = {"from_residual", "into_iter", "lower_bound", "upper_bound"}
     for folder, _, files in os.walk(os.path.join(TOP, crate, "src")):
         for f in files:
             found.update(NAME.findall(open(os.path.join(folder, f), encoding="utf-8").read()))

@@ -1,21 +1,14 @@
 -- What every plan keeps.
 use Rattle.std.proofs.Common.{◌≡◌, ℕ, suc, ◌*◌, ◌<◌, ◌≤◌, List, [], ◌∷◌, length, get_or, vec_items, vec_len, sym, ◌∙◌, subst, arith}
 use mathlib.Core.Logic.{∥∥₁_elim}
-use native.Mathlib.Bridge.{le_prop}
-use std.HLevel.{Π_prop, ⊥_prop}
-use denote.Struct.Props.{three_prop, four_prop}
+use denote.Struct.Props.{props}
 use Rattle.std.proofs.lemmas.List.{length-map}
 use Rattle.plan.specs.Cells.{Planned, planned, no_cell, Delays, Cells, hops_in}
 use Rattle.plan.specs.Plans.{delays_of, cells_of}
 use Rattle.plan.specs.declared.plan.Plan.{Plan}
 
 cells_prop : (n : ℕ) (cs : List Planned) → IsProp (Cells n cs)
-cells_prop n cs =
-    Π_prop λ k. Π_prop λ h.
-    three_prop le_prop le_prop
-    (four_prop le_prop le_prop
-    (Π_prop λ i. Π_prop λ l. le_prop)
-    (Π_prop λ i. Π_prop λ j. Π_prop λ l. Π_prop λ m. Π_prop λ e. ⊥_prop))
+cells_prop n cs = hlevel props
 
 hops_few : (cs : List Planned) → ((k : ℕ) → k < length cs → length (get_or cs k no_cell).route ≤ 8) → hops_in cs ≤ 8 * length cs
 hops_few [] h = omega arith

@@ -71,7 +71,7 @@ returns-in_err-sent c =
     let ended = sym c.ended.ensures ∙ c.if-not-ended.false in
     let at : length c.ports.result.now - 1 ≡ length (get_or (cells_of r.plan) c.args.cell no_cell).route - 1 =
     ap (λ x. length x - 1) (ports_are c.in-Some.planned c.ports.ensures c.route.ensures (c.in-Some.ensures.1 ∙ ap (λ x. get_or (cells_of x) c.args.cell no_cell) p)) in
-    let e = err_from_is_err_and c.from-residual.result c.from-residual.ensures.1 in
+    let e = err_from_is_err_and c.from_residual.result c.from_residual.ensures.1 in
     let why = c.in_err-sent.ensures ∙ ap (λ h. told (sent_test (cells_of r.plan) log c.args.cell h) (sent_in (cells_of r.plan) log c.args.cell h)) at in
     e.1 ∙ ap Err e.2 ∙ told_err (outcome_test r log c.args.cell) _ (outcome_of r log c.args.cell) _
     (why ∙ ap (λ t. told t (sent_in (cells_of r.plan) log c.args.cell (last r log c.args.cell ended l))) (asked r log c.args.cell ended l ∙ sym (tests r log c.args.cell ended l)))

@@ -23,8 +23,8 @@ refused (Some y) x r log out a e h = let same : x ≡ y = cc in (h ∙ ap Err sa
 
 pub returns-in_err-test_file : goal.returns-in_err-test_file
 returns-in_err-test_file c =
-    let e = err_from_is_err_and c.from-residual.result c.from-residual.ensures.1 in
-    refused (file_test c.args.recording.now c.args.log.now) _ c.args.recording.now c.args.log.now c.args.out.now c.from-residual.result
+    let e = err_from_is_err_and c.from_residual.result c.from_residual.ensures.1 in
+    refused (file_test c.args.recording.now c.args.log.now) _ c.args.recording.now c.args.log.now c.args.out.now c.from_residual.result
     c.in_err-test_file.ensures (e.1 ∙ ap Err e.2)
 
 pub returns-in_err-sheet : goal.returns-in_err-sheet

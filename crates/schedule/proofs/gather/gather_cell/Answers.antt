@@ -15,7 +15,7 @@ walk-requires c = record { linked = linked _ c.requires.passed; known = c.requir
 
 pub returns-in_err-add_cell : goal.returns-in_err-add_cell
 returns-in_err-add_cell c =
-    let p = err_from_is_err_and c.from-residual-in_err-add_cell.result c.from-residual-in_err-add_cell.ensures.1 in
+    let p = err_from_is_err_and c.from_residual-in_err-add_cell.result c.from_residual-in_err-add_cell.ensures.1 in
     let bs = c.args.image.now.bytes.now in
     let g = c.requires.gathered in
     let w = c.in_ok-found.ensures in

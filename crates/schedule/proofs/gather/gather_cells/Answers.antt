@@ -25,7 +25,7 @@ loop-cell-preserved c =
 
 pub returns-in_err-gather_cell : goal.returns-in_err-gather_cell
 returns-in_err-gather_cell c =
-    let p = err_from_is_err_and c.from-residual.result c.from-residual.ensures.1 in
+    let p = err_from_is_err_and c.from_residual.result c.from_residual.ensures.1 in
     let bs = c.args.image.now.bytes.now in
     let in' : c.loop-cell.cell < cell_count bs = omega arith in
     rw (p.1, p.2)
@@ -34,7 +34,7 @@ returns-in_err-gather_cell c =
 
 pub returns-in_err-test_reached : goal.returns-in_err-test_reached
 returns-in_err-test_reached c =
-    let p = err_from_is_err_and c.from-residual-in_err-test_reached.result c.from-residual-in_err-test_reached.ensures.1 in
+    let p = err_from_is_err_and c.from_residual-in_err-test_reached.result c.from_residual-in_err-test_reached.ensures.1 in
     let bs = c.args.image.now.bytes.now in
     let e : c.loop-cell.cell ≡ cell_count bs = omega arith in
     let passed : each_below (cell_count bs) (chain_test bs) ≡ None = subst (λ n. each_below n (chain_test bs) ≡ None) e c.loop-cell.invariant.0 in

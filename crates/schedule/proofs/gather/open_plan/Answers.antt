@@ -24,7 +24,7 @@ loop-port-preserved c =
 
 pub returns-in_err-add_port : goal.returns-in_err-add_port
 returns-in_err-add_port c =
-    let p = err_from_is_err_and c.from-residual.result c.from-residual.ensures.1 in
+    let p = err_from_is_err_and c.from_residual.result c.from_residual.ensures.1 in
     let bs = c.args.image.now.bytes.now in
     let h = c.in_err-add_port.ensures in
     let in' : c.loop-port.port < port_count bs = omega arith in

@@ -16,7 +16,7 @@ tests_of p flow r = cell_test (length (delays_of p)) (length (cells_of p)) flow 
 
 pub returns-in_err-test_cell : goal.returns-in_err-test_cell
 returns-in_err-test_cell c =
-    let e = err_from_is_err_and c.from-residual.result c.from-residual.ensures.1 in
+    let e = err_from_is_err_and c.from_residual.result c.from_residual.ensures.1 in
     let first = tested_refuses (tests_of c.args.self.now c.args.flow c.args.route.now) _ c.in_err-test_cell.ensures in
     rw (e.1, e.2, first) (refl, record { delays = refl; cells = refl })
 
@@ -29,14 +29,19 @@ invariant_of-self c =
     let kept : Cells (vec_len p.delays) (map planned (vec_items c.push.new.self)) =
     rw (c.push.ensures.items, map_pushed, count_ports p)
     (each_pushed (Fitting n) no_cell (cells_of p) _ _ (cells_fit p) (subst (Fitting n) (sym c.new.ensures) fits.0)) in
-    (p.few_ports, (omega (arith, fits.1, count_cells p), (p.delays_fit, (∣ kept ∣₁, tt))))
+    record {
+      few_ports = p.few_ports;
+      few_cells = omega (arith, fits.1, count_cells p);
+      delays_fit = p.delays_fit;
+      cells_fit = ∣ kept ∣₁;
+    }
 
 pub returns-in_err-push : goal.returns-in_err-push
 returns-in_err-push c =
     let p = c.args.self.now in
     let passed = tested_passes (tests_of p c.args.flow c.args.route.now) _ c.in_ok-test_cell.ensures in
     let same = ap (map planned) {x = vec_items c.push.new.self} {y = vec_items p.cells} c.in_err-push.ensures.items in
-    let e = err_from_is_err_and c.from-residual-in_err-push.result c.from-residual-in_err-push.ensures.1 in
+    let e = err_from_is_err_and c.from_residual-in_err-push.result c.from_residual-in_err-push.ensures.1 in
     rw (e.1, e.2, passed) (refl, record { delays = refl; cells = same })
 
 pub returns : goal.returns

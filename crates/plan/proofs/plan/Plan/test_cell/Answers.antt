@@ -12,6 +12,6 @@ first o q e h = rw (tested_refuses o e h)
 
 pub returns-in_err-test_route : goal.returns-in_err-test_route
 returns-in_err-test_route c =
-    let e = err_from_is_err_and c.from-residual.result c.from-residual.ensures.1 in
+    let e = err_from_is_err_and c.from_residual.result c.from_residual.ensures.1 in
     e.1 ∙ ap Err e.2 ∙ first _ _ _ c.in_err-test_route.ensures
     ∙ ap₂ (λ n k. tested (cell_test n k c.args.flow c.args.route.now)) c.ports.ensures c.cells-cell.ensures

@@ -9,13 +9,13 @@ refusal_so r x e P Q h = subst (λ y. MatchResult y P Q) (sym e) h
 
 pub returns-in_err-test_slot : goal.returns-in_err-test_slot
 returns-in_err-test_slot g c =
-    let e = err_from_is_err_and c.from-residual.result c.from-residual.ensures.1 in
+    let e = err_from_is_err_and c.from_residual.result c.from_residual.ensures.1 in
     record {
       value = e.1 ∙ ap Err e.2 ∙ c.in_err-test_slot.ensures.value;
       refused =
           let same : (c.args.self.now ≡ c.args.self.now) × (c.args.flights.now ≡ c.args.flights.now) × (c.args.log.now ≡ c.args.log.now) × (c.args.queue.now ≡ c.args.queue.now) = (refl, refl, refl, refl) in
-          refusal_so c.from-residual.result e.0 e.1 _ _ same;
-      performed = λ C. refusal_so c.from-residual.result e.0 e.1 _ (λ _. Unit {0}) tt;
+          refusal_so c.from_residual.result e.0 e.1 _ _ same;
+      performed = λ C. refusal_so c.from_residual.result e.0 e.1 _ (λ _. Unit {0}) tt;
       ends = λ C. (ended_gone _ _ c.args.self.now c.args.log.now c.args.queue.now C.between, gone_ended _ _ c.args.self.now c.args.log.now c.args.queue.now C.between);
     }
 

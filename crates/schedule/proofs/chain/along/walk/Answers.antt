@@ -16,7 +16,7 @@ loop-index-init c =
 
 pub returns-in_err-reach : goal.returns-in_err-reach
 returns-in_err-reach c =
-    let p = err_from_is_err_and c.from-residual.result c.from-residual.ensures.1 in
+    let p = err_from_is_err_and c.from_residual.result c.from_residual.ensures.1 in
     let h = c.in_err-reach.ensures in
     let w = c.loop-index.invariant in
     let more : 0 < c.loop-index.index = omega arith in

@@ -8,5 +8,5 @@ loop-cell-preserved c = turn_passes (cell_fields c.args.self.now.bytes.now) _ _ 
 
 pub returns-in_err-test_cell : goal.returns-in_err-test_cell
 returns-in_err-test_cell c =
-    let p = err_from_is_err_and c.from-residual.result c.from-residual.ensures.1 in
+    let p = err_from_is_err_and c.from_residual.result c.from_residual.ensures.1 in
     rw (p.1, p.2) (turn_refuses (cell_fields c.args.self.now.bytes.now) _ _ _ c.loop-cell-test.true c.loop-cell.invariant c.in_err-test_cell.ensures)

@@ -8,5 +8,5 @@ loop-port-preserved c = turn_passes (port_fields c.args.self.now.bytes.now) _ _ 
 
 pub returns-in_err-test_port : goal.returns-in_err-test_port
 returns-in_err-test_port c =
-    let p = err_from_is_err_and c.from-residual.result c.from-residual.ensures.1 in
+    let p = err_from_is_err_and c.from_residual.result c.from_residual.ensures.1 in
     rw (p.1, p.2) (turn_refuses (port_fields c.args.self.now.bytes.now) _ _ _ c.loop-port-test.true c.loop-port.invariant c.in_err-test_port.ensures)

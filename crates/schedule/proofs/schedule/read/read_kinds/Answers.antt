@@ -20,13 +20,13 @@ renamed {bs} {bs'} {k} {k'} {ds} {cs} {ms} b e g =
 pub returns-in_err-head : goal.returns-in_err-head
 unfolding first_refusal
 returns-in_err-head c =
-    let p = err_from_is_err_and c.from-residual.result c.from-residual.ensures.1 in
+    let p = err_from_is_err_and c.from_residual.result c.from_residual.ensures.1 in
     rw (p.1, p.2) (stops_at_once _ _ _ (inr c.in_err-head.ensures))
 
 pub returns-in_err-test_fields : goal.returns-in_err-test_fields
 unfolding first_refusal
 returns-in_err-test_fields c =
-    let p = err_from_is_err_and c.from-residual-in_err-test_fields.result c.from-residual-in_err-test_fields.ensures.1 in
+    let p = err_from_is_err_and c.from_residual-in_err-test_fields.result c.from_residual-in_err-test_fields.ensures.1 in
     let bs = c.args.bytes.now in
     let e = c.in_err-test_fields.field-0.0 in
     let failed : field_tests bs ≡ Some e = subst (λ b. field_tests b ≡ Some e) c.new-image.ensures.bytes (tested_refuses _ _ c.in_err-test_fields.ensures) in
@@ -35,7 +35,7 @@ returns-in_err-test_fields c =
 pub returns-in_err-marks : goal.returns-in_err-marks
 unfolding first_refusal
 returns-in_err-marks c =
-    let p = err_from_is_err_and c.from-residual-in_err-marks.result c.from-residual-in_err-marks.ensures.1 in
+    let p = err_from_is_err_and c.from_residual-in_err-marks.result c.from_residual-in_err-marks.ensures.1 in
     let bs = c.args.bytes.now in
     let passed : field_tests bs ≡ None = subst (λ b. field_tests b ≡ None) c.new-image.ensures.bytes (tested_passes _ _ c.in_ok-test_fields.ensures) in
     rw (p.1, p.2) (stops_later _ _ _ c.in_ok-head.ensures.0 (stops_later _ _ _ passed
