@@ -5,7 +5,7 @@ use Rattle.network.specs.Networks.{Network, Hop, Sound}
 use Rattle.network.specs.OnTime.{LeastSlackFirst}
 use Rattle.network.specs.Schedules.{Schedule, arrival, Sends, WorkConserving}
 use Rattle.network.specs.Slacks.{due}
-use Rattle.network.specs.Steps.{Steps, StepsBusy, StepsFirst, Starts, Goes_on}
+use Rattle.network.specs.Steps.{Steps, StepsBusy, StepsFirst, Starts, GoesOn}
 use Rattle.network.proofs.Cases.{halves}
 use Rattle.network.proofs.Hops.{hop_before}
 use Rattle.network.proofs.Slacks.{due_fixed}
@@ -77,5 +77,5 @@ starts N r x = record {
   first = λ q g c h og on p l a m. absurd (omega arith);
 }
 
-pub goes_on : Goes_on
+pub goes_on : GoesOn
 goes_on N t x y O S = record { sends = sends N t x y O S; busy = busy N t x y O S; first = first N t x y O S }

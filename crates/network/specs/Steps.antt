@@ -39,5 +39,5 @@ pub record LawGoesOn (N : Network) (t : ℕ) (x y : Schedule) : Type 0 where
 abbrev pub Starts : Type 0
 Starts = (N : Network) (r x : Schedule) → LawStarts N r x
 
-abbrev pub Goes_on : Type 0
-Goes_on = (N : Network) (t : ℕ) (x y : Schedule) → Sound N → Steps N t x y → LawGoesOn N t x y
+abbrev pub GoesOn : Type 0
+GoesOn = (N : Network) (t : ℕ) (x y : Schedule) → Sound N → Steps N t x y → LawGoesOn N t x y

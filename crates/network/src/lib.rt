@@ -5,7 +5,7 @@
 ghost use Rattle.network.specs.Bound.{Ends};
 ghost use Rattle.network.specs.OnTime.{OnTimeReplay};
 ghost use Rattle.network.specs.Slacks.{DueFixed, LastSlack};
-ghost use Rattle.network.specs.Steps.{Goes_on, Starts};
+ghost use Rattle.network.specs.Steps.{GoesOn, Starts};
 
 // A replay by least slack first makes no cell late, if no route has three ports where some cell waited, in the
 // recording or in the replay.
@@ -46,7 +46,7 @@ pub fn laws_start_stands() -> u8
 
 // Each law of a replay that holds before a slot holds after it, if the ports send in that slot as the law asks.
 pub fn laws_go_on_stands() -> u8
-    ensures { Goes_on }
+    ensures { GoesOn }
 {
     0
 }

@@ -1,7 +1,7 @@
 -- What a slot changes, from its start to its end: the cells that enter or land, and the turns of the ports.
-use Rattle.std.proofs.Common.{◌≡◌, ℕ, zero, suc, ◌+◌, ◌<◌, ◌≤◌, Bool, true, false, cond, ◌||◌, ltb, ◌⊎◌, ℤ, pos, Some, None, Option, sym, refl, ap, ◌∙◌, subst, inl, inr, arith}
-use Rattle.std.proofs.lemmas.Bool.{cases_eq, cases_lt, cases_Bool, lt-ltb, ltb-true, or_cases, or_left, or_right, false≢true}
-use Rattle.refusal.proofs.Options.{none_some, some_one}
+use Rattle.std.proofs.Common.{◌≡◌, ℕ, suc, ◌<◌, ◌≤◌, true, ltb, ◌⊎◌, ℤ, Some, None, sym, refl, ap, ◌∙◌, subst, inl, inr, arith}
+use Rattle.std.proofs.lemmas.Bool.{cases_eq, cases_lt, lt-ltb, ltb-true, or_cases, or_left, or_right}
+use Rattle.refusal.proofs.Options.{none_some}
 use Rattle.discipline.specs.Calls.{arrive_test}
 use Rattle.discipline.specs.Meaning.{Waiting, At, waits_at_lem, count_at}
 use Rattle.discipline.proofs.Stays.{at_stay, stay_at}
@@ -9,10 +9,9 @@ use Rattle.discipline.proofs.Counting.{passing_find, passing_some}
 use Rattle.network.specs.Networks.{Network, Hop, Sound}
 use Rattle.rules.specs.Coherence.{Inside}
 use Rattle.rules.specs.Moments.{Moment, pending, stay, Placed}
-use Rattle.rules.specs.Rules.{Arrives, Entered, Sends, Served}
-use Rattle.rules.specs.Rules.Entered.{start as none-entered, passes, enters}
-use Rattle.rules.specs.Rules.Served.{start as none-served, idle, sends}
-use Rattle.rules.specs.declared.condition.Condition.{Condition}
+use Rattle.rules.specs.Rules.{Entered, Sends, Served}
+use Rattle.rules.specs.Rules.Entered.{start as none_entered, passes, enters}
+use Rattle.rules.specs.Rules.Served.{start as none_served, idle, sends}
 use Rattle.rules.specs.declared.condition.Condition.TheVariants as is
 use Rattle.rules.proofs.Disciplines.{Laws}
 use Rattle.rules.proofs.Inside.{no_wait, sends_inside}
@@ -27,7 +26,7 @@ module _ (N : Network) (flow : ℕ → ℕ) (t : ℕ) {D : Type 0} (waiting : D 
     pub cells : (c : ℕ) → (n.condition c ≡ m.condition c) ⊎ ((pending N c (m.condition c) ≡ Some t) × ((h : ℕ) × (n.condition c ≡ is.Waiting h t)))
 
   pub came : (k : ℕ) (m n : Moment D) → Entered N flow t waiting arrives picks k m n → Came m n
-  came _ m _ none-entered = record { sent = refl; contested = refl; cells = λ c. inl refl }
+  came _ m _ none_entered = record { sent = refl; contested = refl; cells = λ c. inl refl }
   came _ m n (passes E no_one) = came _ m n E
   came _ m o (enters {c = c} {n = n} E p A) =
       let I = came _ m n E in
@@ -275,6 +274,6 @@ module _ (N : Network) (flow : ℕ → ℕ) (t : ℕ) {D : Type 0} (waiting : D 
 
     -- all turns
     pub after : (p : ℕ) (k n : Moment D) → Inside N waiting sound t k → Served N flow t waiting arrives picks p k n → After p k n
-    after _ k _ I none-served = after_start k I
+    after _ k _ I none_served = after_start k I
     after _ k n I (idle {p = p} E none) = after_idle p k n (after p k n I E) none
     after _ k o I (sends {p = p} {c = c} {n = n} E S) = after_sends p k n o (after p k n I E) c S

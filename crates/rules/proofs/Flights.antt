@@ -1,18 +1,17 @@
 -- The flights after a cell has landed, and after one more has left.
-use Rattle.std.proofs.Common.{◌≡◌, ℕ, ◌+◌, ◌<◌, ◌≤◌, Bool, true, false, cond, ◌||◌, eqb, leb, ◌⊎◌, List, [], ◌∷◌, length, is_some, Some, None, Option, sym, refl, ap, ◌∙◌, subst, inl, inr, arith}
-use Rattle.std.specs.List.{ContainsAt as Has, AllByRecursion as All}
-use Rattle.std.proofs.ByRecursion.{All-weaker, all-has}
-use Rattle.std.proofs.lemmas.Bool.{cases_eq, leb-true, le-leb, eq-eqb, ne_eqb, or_right, false≢true}
+use Rattle.std.proofs.Common.{◌≡◌, ℕ, ◌<◌, ◌≤◌, Bool, true, false, ◌||◌, eqb, leb, List, length, is_some, Some, None, sym, refl, ap, ◌∙◌, subst, inl, inr, arith}
+use Rattle.std.specs.List.{ContainsAt as Has}
+use Rattle.std.proofs.ByRecursion.{All-weaker}
+use Rattle.std.proofs.lemmas.Bool.{cases_eq, leb-true, le-leb, eq-eqb, ne_eqb, or_right}
 use Rattle.refusal.proofs.Options.{none_some, some_one}
-use Rattle.discipline.specs.Meaning.{passing}
 use Rattle.discipline.proofs.Counting.{passing_more, passing_same, passing_few}
 use Rattle.network.specs.Networks.{Network}
-use Rattle.table.specs.Kinds.{by, ◌then◌, flight_upto}
-use Rattle.table.specs.Order.{put_in, first_from, taken_from, LeastFrom}
+use Rattle.table.specs.Kinds.{flight_upto}
+use Rattle.table.specs.Order.{put_in, first_from, taken_from}
 use Rattle.table.specs.declared.flight.Flight.{Flight}
-use Rattle.table.proofs.Laws.{reflexive, length_put_in, has_put_in, has_put_in_old, all_put_in, length_taken_from, has_taken_from_cases, all_taken_from, first_from_least}
+use Rattle.table.proofs.Laws.{reflexive, length_put_in, has_put_in, has_put_in_old, all_put_in, length_taken_from, has_taken_from_cases, all_taken_from}
 use Rattle.table.specs.Lexical.{then_first, then_second, flight_lawful}
-use Rattle.table.proofs.Rising.{all_both, rising_sorted, rising_put_in, rising_taken, taken_once}
+use Rattle.table.proofs.Rising.{all_both, rising_put_in, rising_taken, taken_once}
 use Rattle.rules.specs.Coherence.{Flying}
 use Rattle.rules.specs.Moments.{pending}
 use Rattle.rules.specs.Rules.{But}

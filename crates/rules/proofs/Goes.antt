@@ -1,11 +1,10 @@
 -- A run between slots goes on by one slot: all parts agree again, and the laws of a schedule hold one slot later.
-use Rattle.std.proofs.Common.{◌≡◌, ℕ, zero, suc, ◌+◌, ◌<◌, ◌≤◌, Bool, true, false, ◌⊎◌, ℤ, is_some, Some, None, Option, unwrap_or, sym, refl, ap, ◌∙◌, subst, inl, inr, arith}
-use Rattle.std.proofs.lemmas.Bool.{cases_eq, cases_lt, cases_order, false≢true}
-use Rattle.refusal.proofs.Options.{none_some}
+use Rattle.std.proofs.Common.{◌≡◌, ℕ, zero, suc, ◌+◌, ◌<◌, ◌≤◌, true, ◌⊎◌, ℤ, is_some, Some, None, Option, unwrap_or, sym, refl, ap, ◌∙◌, subst, inl, inr, arith}
+use Rattle.std.proofs.lemmas.Bool.{cases_order, false≢true}
 use Rattle.discipline.specs.Calls.{arrive_test}
 use Rattle.discipline.specs.Meaning.{Waiting}
 use Rattle.network.specs.Networks.{Network, Hop, Sound}
-use Rattle.network.specs.Schedules.{Schedule, arrival, Waits, Waited}
+use Rattle.network.specs.Schedules.{Schedule, arrival, Waited}
 use Rattle.network.specs.Steps.{Steps, StepsBusy}
 use Rattle.network.proofs.Steps as laws
 use Rattle.rules.specs.Coherence.{Inside, Ahead}

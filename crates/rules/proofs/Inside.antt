@@ -1,25 +1,22 @@
 -- A run in the middle of a slot stays coherent: when a cell enters or lands, and when a port sends one.
-use Rattle.std.proofs.Common.{◌≡◌, ℕ, zero, suc, ◌+◌, ◌<◌, ◌≤◌, Bool, true, false, cond, eqb, ltb, ◌⊎◌, ℤ, pos, is_some as option_is_some, Some, None, Option, unwrap_or, sym, refl, ap, ◌∙◌, subst, inl, inr, add-one, arith}
-use Rattle.std.proofs.lemmas.Bool.{cases_eq, cases_lt, cases_Bool, eq-eqb, ne_eqb, lt-ltb, le-ltb, ltb-true, ltb-false, eqb-true, false≢true, true≢false}
+use Rattle.std.proofs.Common.{◌≡◌, ℕ, zero, suc, ◌+◌, ◌<◌, ◌≤◌, true, false, cond, ℤ, pos, is_some as option_is_some, Some, None, unwrap_or, sym, refl, ap, ◌∙◌, subst, inl, inr, add-one, arith}
+use Rattle.std.proofs.lemmas.Bool.{cases_eq, cases_Bool, eq-eqb, ne_eqb, ltb-true, ltb-false}
 use Rattle.refusal.proofs.Options.{none_some, some_one}
-use Rattle.refusal.specs.Tests.{when, or_else}
-use Rattle.refusal.specs.declared.Refusal.TheVariants.{OutOfRange, NoneWaits}
-use Rattle.discipline.specs.Calls.{arrive_test, pick_test}
-use Rattle.discipline.specs.Meaning.{Waiting, At, Limits, Same, stays_at, waits_at_lem, with_cell, without_cell, count_at, passing}
-use Rattle.discipline.specs.declared.stay.Stay.{Stay}
+use Rattle.discipline.specs.Calls.{arrive_test}
+use Rattle.discipline.specs.Meaning.{Waiting, passing}
 use Rattle.discipline.proofs.Stays.{pick_passes}
-use Rattle.discipline.proofs.Counting.{passing_same, passing_more, passing_some}
+use Rattle.discipline.proofs.Counting.{passing_same, passing_more}
 use Rattle.network.specs.Networks.{Network, Hop, Sound}
 use Rattle.network.specs.Schedules.{arrival}
 use Rattle.rules.specs.Coherence.{Inside}
 use Rattle.rules.specs.Conditions.{next_condition}
 use Rattle.rules.specs.Loads.{Sent, slots}
 use Rattle.rules.specs.Moments.{Moment, pending, stay, is_gone, Reached, Placed}
-use Rattle.rules.specs.Rules.{Arrives, Sends, But, goes_on, onward}
+use Rattle.rules.specs.Rules.{Arrives, Sends, goes_on, onward}
 use Rattle.rules.specs.declared.condition.Condition.{Condition}
 use Rattle.rules.proofs.Disciplines.{Laws}
 use Rattle.rules.specs.declared.condition.Condition.TheVariants as is
-use Rattle.rules.specs.declared.condition.Event.TheVariants.{Arrive, Sent as Is-sent}
+use Rattle.rules.specs.declared.condition.Event.TheVariants.{Arrive, Sent as IsSent}
 use Rattle.rules.specs.declared.condition.Onward.TheVariants.{Link, Out}
 
 -- the same slots of one cell, up to its last hop
@@ -105,14 +102,14 @@ module _ (N : Network) (flow : ℕ → ℕ) (t : ℕ) (O : Sound N) {D : Type 0}
       was = subst (Placed N m.sent t c) S.waited (I.placed c l)
 
       -- where cell c goes
-      next_is : n.condition c ≡ next_condition (is.Waiting h S.since) (Is-sent (onward N t c h))
-      next_is = S.becomes ∙ ap (λ k. next_condition k (Is-sent (onward N t c h))) S.waited
+      next_is : n.condition c ≡ next_condition (is.Waiting h S.since) (IsSent (onward N t c h))
+      next_is = S.becomes ∙ ap (λ k. next_condition k (IsSent (onward N t c h))) S.waited
 
       goes : goes_on N c h ≡ true → n.condition c ≡ is.OnLink (h + 1) (t + N.delay (N.port c h))
-      goes e = next_is ∙ ap (λ b. next_condition (is.Waiting h S.since) (Is-sent (cond b (Link (h + 1) (t + N.delay (N.port c h))) Out))) e
+      goes e = next_is ∙ ap (λ b. next_condition (is.Waiting h S.since) (IsSent (cond b (Link (h + 1) (t + N.delay (N.port c h))) Out))) e
 
       leaves : goes_on N c h ≡ false → n.condition c ≡ is.Gone
-      leaves e = next_is ∙ ap (λ b. next_condition (is.Waiting h S.since) (Is-sent (cond b (Link (h + 1) (t + N.delay (N.port c h))) Out))) e
+      leaves e = next_is ∙ ap (λ b. next_condition (is.Waiting h S.since) (IsSent (cond b (Link (h + 1) (t + N.delay (N.port c h))) Out))) e
 
       other_hop : (g : ℕ) → (g ≡ h → ⊥) → g < N.len c → n.sent c g ≡ m.sent c g
       other_hop g ne lg = S.kept c g (record { cell = l; hop = lg }) (inr ne)

@@ -1,21 +1,20 @@
 -- The cells that enter or land in a slot, one after another in ascending number.
-use Rattle.std.proofs.Common.{◌≡◌, ℕ, zero, suc, ◌+◌, ◌<◌, ◌≤◌, Bool, true, false, cond, leb, ◌⊎◌, List, ℤ, Some, None, Option, sym, refl, ap, ◌∙◌, subst, inl, inr, arith}
+use Rattle.std.proofs.Common.{◌≡◌, ℕ, zero, suc, ◌<◌, ◌≤◌, Bool, true, false, cond, leb, List, ℤ, Some, None, Option, sym, refl, ap, ◌∙◌, subst, inl, inr, arith}
 use native.Mathlib.Decide.{dec_le}
-use Rattle.std.specs.List.{ContainsAt as Has, AllByRecursion as All}
 use Rattle.std.proofs.ByRecursion.{all-has}
-use Rattle.std.proofs.lemmas.Bool.{cases_eq, le-leb, lt-leb, cases_Bool}
+use Rattle.std.proofs.lemmas.Bool.{cases_eq, le-leb}
 use Rattle.refusal.proofs.Options.{none_some}
 use Rattle.discipline.specs.Meaning.{Waiting}
 use Rattle.network.specs.Networks.{Network}
 use Rattle.table.specs.Kinds.{flight_upto}
-use Rattle.table.specs.Order.{first_from, taken_from, LeastFrom}
+use Rattle.table.specs.Order.{first_from, LeastFrom}
 use Rattle.table.specs.declared.flight.Flight.{Flight}
 use Rattle.table.proofs.Laws.{first_from_least, has_first_from}
 use Rattle.table.specs.Lexical.{flight_lawful}
 use Rattle.table.proofs.Rising.{rising_sorted}
 use Rattle.rules.specs.Coherence.{Inside, Flying, Ahead}
 use Rattle.rules.specs.Moments.{Moment, pending}
-use Rattle.rules.specs.Rules.{Arrives, Entered, But}
+use Rattle.rules.specs.Rules.{Arrives, Entered}
 use Rattle.rules.specs.Rules.Entered.{start, passes, enters}
 use Rattle.rules.specs.Landing.{from_slot, Landing}
 use Rattle.rules.specs.declared.condition.Condition.{Condition}

@@ -1,13 +1,11 @@
 -- What the parts of a run have to do with each other.
-use Rattle.std.specs.Prelude.{◌≡◌, ℕ, ◌<◌, ◌≤◌, true, List, length, is_some, Some, None}
+use Rattle.std.specs.Prelude.{◌≡◌, ℕ, ◌<◌, ◌≤◌, List, length, is_some, Some, None}
 use Rattle.std.specs.List.{ContainsAt as Has, AllByRecursion as All}
 use Rattle.discipline.specs.Meaning.{Waiting, passing}
 use Rattle.network.specs.Networks.{Network, Hop}
-use Rattle.network.specs.Schedules.{Sends, WorkConserving, Waited}
 use Rattle.table.specs.Kinds.{flight_upto}
 use Rattle.table.specs.Order.{Rising}
 use Rattle.table.specs.declared.flight.Flight.{Flight}
-use Rattle.rules.specs.Loads.{slots}
 use Rattle.rules.specs.Moments.{Moment, pending, stay, is_gone, Placed}
 use Rattle.rules.specs.declared.condition.Condition.{Condition}
 

@@ -1,8 +1,6 @@
 -- The next condition of a cell, by its condition and an event.
-use Rattle.std.specs.Prelude.{ℕ}
 use Rattle.rules.specs.declared.condition.Condition.{Condition}
 use Rattle.rules.specs.declared.condition.Condition.TheVariants.{Outside, Waiting, OnLink, Gone}
-use Rattle.rules.specs.declared.condition.Onward.{Onward}
 use Rattle.rules.specs.declared.condition.Onward.TheVariants.{Link, Out}
 use Rattle.rules.specs.declared.condition.Event.{Event}
 use Rattle.rules.specs.declared.condition.Event.TheVariants.{Arrive, Sent}

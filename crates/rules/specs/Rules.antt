@@ -1,14 +1,13 @@
 -- The rules of a slot.
-use Rattle.std.specs.Prelude.{◌≡◌, ℕ, suc, ◌+◌, ◌<◌, Bool, cond, ◌||◌, ◌⊎◌, ℤ, pos, Some, ◌≢◌, nat_lt}
+use Rattle.std.specs.Prelude.{◌≡◌, ℕ, suc, ◌+◌, Bool, cond, ◌||◌, ◌⊎◌, ℤ, pos, Some, ◌≢◌, nat_lt}
 use Rattle.discipline.specs.Meaning.{Waiting as Stays, At, count_at}
 use Rattle.network.specs.Networks.{Network, Hop}
 use Rattle.rules.specs.Conditions.{next_condition}
 use Rattle.rules.specs.Moments.{Moment, pending}
-use Rattle.rules.specs.declared.condition.Condition.{Condition}
 use Rattle.rules.specs.declared.condition.Condition.TheVariants.{Waiting}
 use Rattle.rules.specs.declared.condition.Onward.{Onward}
 use Rattle.rules.specs.declared.condition.Onward.TheVariants.{Link, Out}
-use Rattle.rules.specs.declared.condition.Event.TheVariants.{Arrive, Sent as Is-sent}
+use Rattle.rules.specs.declared.condition.Event.TheVariants.{Arrive, Sent as IsSent}
 
 -- whether position h is the last of cell c
 abbrev pub goes_on : Network → ℕ → ℕ → Bool
@@ -49,7 +48,7 @@ module _ (N : Network) (flow : ℕ → ℕ) (t : ℕ) {D : Type 0} (waiting : D 
     pub there : At (waiting m.queue) p c
     pub picked : picks m.queue p t c n.queue
     pub waited : m.condition c ≡ Waiting position since
-    pub becomes : n.condition c ≡ next_condition (m.condition c) (Is-sent (onward N t c position))
+    pub becomes : n.condition c ≡ next_condition (m.condition c) (IsSent (onward N t c position))
     pub others : But m.condition n.condition c
     pub sent : n.sent c position ≡ Some t
     pub kept : (k h : ℕ) → Hop N k h → ((k ≢ c) ⊎ (h ≢ position)) → n.sent k h ≡ m.sent k h
