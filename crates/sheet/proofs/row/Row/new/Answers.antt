@@ -28,7 +28,11 @@ loop-position-preserved c =
 pub invariant_of-result : goal.invariant_of-result
 invariant_of-result c =
     let most = few c.route-route.result c.ports-ports.result.now c.ports-ports.ensures in
-    (omega arith, (c.loop-position.invariant.0, (rw (to_z-of_z w32 c.args.slack c.ranges.slack) c.ranges.slack.sfits, tt)))
+    record {
+      few = omega arith;
+      long = c.loop-position.invariant.0;
+      slack_fits = rw (to_z-of_z w32 c.args.slack c.ranges.slack) c.ranges.slack.sfits;
+    }
 
 pub returns : goal.returns
 returns c =

@@ -31,7 +31,7 @@ rows_of-requires c =
     let mapped = length-map c.all_cells.result.now planned in
     let all = ap length c.all_cells.ensures in
     let hops = ap hops_in c.all_cells.ensures in
-    ((omega arith, omega arith), omega arith)
+    record { cells_len_bound = (omega arith, omega arith); cells_in_bounds = omega arith }
 
 -- what the calls have made for the plan
 made : (p : Plan) (xs : List ℤ) (ss : List ℕ) (n m : ℕ) (ds all : List ℕ) (cs : List Planned) (rs : List Row)
@@ -51,22 +51,14 @@ invariant_of-result c =
     let ports = few_ports_lem p in
     let cells = few_cells_lem p in
     let some = c.if-cells-eq0.false in
-    let m = made p c.args.slacks.now c.args.slots.now c.ports-ports.result c.cells-cells.result c.delays.result.now c.padded.result _ c.rows_of.result c.ports-ports.ensures c.cells-cells.ensures c.delays.ensures c.padded.ensures c.all_cells.ensures c.rows_of.ensures in (
-      omega arith,
-      (
-        omega arith,
-        (
-          m.long,
-          (
-            c.hops-hops.ensures ∙ all_hops c.args.run c.args.pile p _ _ _ _ _ _ m,
-            (
-              ∣ fit c.args.run c.args.pile p _ _ _ _ _ _ m (omega arith) c.type_inv.slots ∣₁,
-              tt,
-            ),
-          ),
-        ),
-      ),
-    )
+    let m = made p c.args.slacks.now c.args.slots.now c.ports-ports.result c.cells-cells.result c.delays.result.now c.padded.result _ c.rows_of.result c.ports-ports.ensures c.cells-cells.ensures c.delays.ensures c.padded.ensures c.all_cells.ensures c.rows_of.ensures in
+    record {
+      few_ports = omega arith;
+      few_cells = omega arith;
+      long = m.long;
+      all_hops = c.hops-hops.ensures ∙ all_hops c.args.run c.args.pile p _ _ _ _ _ _ m;
+      fit = ∣ fit c.args.run c.args.pile p _ _ _ _ _ _ m (omega arith) c.type_inv.slots ∣₁;
+    }
 
 pub returns : goal.returns
 returns c =
