@@ -1,5 +1,5 @@
 -- How many numbers pass a test, and how many cells wait at a port.
-use Rattle.std.proofs.Common.{◌≡◌, ℕ, zero, suc, ◌+◌, ◌<◌, ◌≤◌, Bool, true, false, cond, eqb, ◌⊎◌, Some, None, Option, sym, refl, ap, ◌∙◌, subst, inl, inr, arith}
+use Rattle.std.proofs.Common.{◌≡◌, ℕ, zero, suc, ◌+◌, ◌<◌, ◌≤◌, Bool, true, false, cond, Some, None, Option, sym, refl, ap, ◌∙◌, inl, inr, arith}
 use Rattle.std.proofs.lemmas.Bool.{cases_eq, cases_Bool, eq-eqb, ne_eqb, false≢true}
 use Rattle.discipline.specs.Meaning.{Waiting, stays_at, waits_at_lem, At, passing, count_at, Limits, Same, with_cell, without_cell, Empty}
 use Rattle.discipline.specs.declared.stay.Stay.{Stay}

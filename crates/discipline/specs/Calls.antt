@@ -1,5 +1,5 @@
 -- The tests of the calls, in their order, and what the calls leave.
-use Rattle.std.specs.Prelude.{◌≡◌, ℕ, Bool, not, ◌||◌, is_some, Some, None, Ok, Err, Option, Result, ◌==◌, nat_lt}
+use Rattle.std.specs.Prelude.{◌≡◌, ℕ, not, ◌||◌, is_some, Some, None, Ok, Err, Option, Result, ◌==◌, nat_lt}
 use Rattle.refusal.specs.Tests.{when, or_else}
 use Rattle.refusal.specs.declared.Refusal.{Refusal}
 use Rattle.refusal.specs.declared.Refusal.TheVariants.{OutOfRange, AlreadyWaits, NoneWaits, NotWaiting}

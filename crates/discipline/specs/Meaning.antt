@@ -1,5 +1,5 @@
 -- What a queue discipline means: which cells wait, and which one is chosen.
-use Rattle.std.specs.Prelude.{◌≡◌, ℕ, zero, suc, ◌<◌, ◌≤◌, Bool, true, false, cond, ◌⊎◌, ℤ, pos, ◌<ℤ◌, Some, None, Option, ◌==◌}
+use Rattle.std.specs.Prelude.{◌≡◌, ℕ, zero, suc, ◌≤◌, Bool, true, false, cond, ◌⊎◌, ℤ, pos, ◌<ℤ◌, Some, None, Option, ◌==◌}
 use Rattle.discipline.specs.declared.stay.Stay.{Stay}
 
 -- the cells that wait, each with its stay: no cell waits twice

@@ -1,4 +1,4 @@
-use Rattle.std.proofs.Common.{◌≡◌, ℕ, ◌+◌, ◌<◌, ◌≤◌, true, false, ltb, Ok, Err, Result, sym, ap, ◌∙◌, inl, inr, arith}
+use Rattle.std.proofs.Common.{◌≡◌, ℕ, ◌<◌, ltb, Ok, Err, Result, ap, ◌∙◌, inl, inr, arith}
 use Rattle.std.proofs.lemmas.Bool.{cases_eq, le-ltb, true≢false, false≢true}
 use Rattle.refusal.specs.Tests.{when}
 use Rattle.refusal.specs.declared.Refusal.{Refusal}
@@ -20,7 +20,8 @@ never_refused p m e l h =
 
 pub loop-port-preserved : goal.loop-port-preserved
 loop-port-preserved g c s p l =
-    let m = told_count _ _ _ c.loop-port-test.true (c.in-Ok.ensures s) in
+    let low : c.loop-port.port < 32 = omega arith in
+    let m = told_count _ _ _ low (c.in-Ok.ensures s) in
     elim (cases_eq p c.loop-port.port) [
       | inl q ↦ ap (count_at (g.D.Discipline.waiting c.args.d.now)) q ∙ m ∙ omega arith
       | inr q ↦ c.loop-port.invariant s p (omega arith)
@@ -30,7 +31,8 @@ pub returns-in-Err : goal.returns-in-Err
 returns-in-Err g c =
     record {
       empty = λ s e. absurd (false≢true e);
-      some = λ s e h. never_refused _ _ _ c.loop-port-test.true (c.in-Err.ensures s);
+      some = λ s e h.
+          let low : c.loop-port.port < 32 = omega arith in never_refused _ _ _ low (c.in-Err.ensures s);
     }
 
 pub returns-then-cells-gt0 : goal.returns-then-cells-gt0
@@ -38,7 +40,8 @@ returns-then-cells-gt0 g c =
     record {
       empty = λ s e. absurd (false≢true e);
       some = λ s e h.
-          let m = told_count _ _ _ c.loop-port-test.true (c.in-Ok.ensures s) in
+          let low : c.loop-port.port < 32 = omega arith in
+          let m = told_count _ _ _ low (c.in-Ok.ensures s) in
           let z = empty_count (g.D.Discipline.waiting c.args.d.now) c.loop-port.port h in
           omega arith;
     }
