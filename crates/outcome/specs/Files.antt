@@ -7,7 +7,7 @@ use Rattle.refusal.specs.declared.Refusal.TheVariants.{NoCells, RunNotEnded, NoP
 use Rattle.layout.specs.Contents.{Scheduled, Content, no_hop, no_scheduled}
 use Rattle.layout.specs.RoundTrip.{Written}
 use Rattle.layout.specs.declared.kind.Kind.TheVariants.{Recording as KindRecording}
-use Rattle.plan.specs.Cells.{Planned, no_cell, hops_in}
+use Rattle.plan.specs.Cells.{no_cell, hops_in}
 use Rattle.plan.specs.Plans.{delays_of, cells_of}
 use Rattle.rules.specs.Loads.{sent_in}
 use Rattle.rules.specs.declared.hop.HopRecord.{HopRecord}
