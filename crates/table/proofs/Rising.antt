@@ -1,8 +1,8 @@
 -- Lists in which each element is before all that follow it.
-use Rattle.std.proofs.Common.{◌≡◌, Bool, true, false, cond, List, [], ◌∷◌, Some, None, refl, subst, inl, inr}
+use Rattle.std.proofs.Common.{◌≡◌, Bool, true, false, cond, List, [], ◌∷◌, Some, refl, subst, inl, inr}
 use Rattle.std.proofs.ByRecursion.{All-weaker, all-has}
-use Rattle.std.proofs.lemmas.Bool.{cases_Bool, both_ways, false≢true}
-use Rattle.std.specs.List.{ContainsAt as Has, AllByRecursion as All}
+use Rattle.std.proofs.lemmas.Bool.{cases_Bool, both_ways}
+use Rattle.std.specs.List.{AllByRecursion as All}
 use Rattle.table.specs.Order.{Lawful, Sorted, Rising, put_in, first_from, taken_from}
 use Rattle.table.proofs.Laws.{all_put_in, all_taken_from, has_first_from}
 

@@ -51,9 +51,9 @@ impl<'a, E: Ordered + Copy> Table<'a, E> {
     // Puts `e` behind the elements at the front that are not after it. It is refused just where no place is free.
     pub fn put(&mut self, e: E) -> Result<(), Refusal>
         ensures value { result ≡ tested (when (full self.old) NoPlace) }
-        ensures done { MatchResult result (λ _. elements self.new ≡ put_in upto e (elements self.old)) (λ _. Unchanged self.old self.new) }
-        ensures sorted { Sorted upto (elements self.old) → Sorted upto (elements self.new) }
-        ensures stable { Sorted upto (elements self.old) → OnOk result (elements self.new ≡ behind_equals upto e (elements self.old)) }
+        ensures done { MatchResult result (λ _. elements self.new ≡ put_in E.upto e (elements self.old)) (λ _. Unchanged self.old self.new) }
+        ensures sorted { Sorted E.upto (elements self.old) → Sorted E.upto (elements self.new) }
+        ensures stable { Sorted E.upto (elements self.old) → OnOk result (elements self.new ≡ behind_equals E.upto e (elements self.old)) }
         ensures rest { RestKept self.old self.new }
         ensures same { self.new.places.ghost_name ≡ self.old.places.ghost_name }
         ensures long { length self.new.places.now ≡ length self.old.places.now }
@@ -69,8 +69,8 @@ impl<'a, E: Ordered + Copy> Table<'a, E> {
 
     // Tells the first element that is not before the mark.
     pub fn first(&self, mark: &E) -> Option<E>
-        ensures value { result ≡ first_from upto mark.now (elements self.now) }
-        ensures least { Sorted upto (elements self.now) → LeastFrom upto mark.now (elements self.now) result }
+        ensures value { result ≡ first_from E.upto mark.now (elements self.now) }
+        ensures least { Sorted E.upto (elements self.now) → LeastFrom E.upto mark.now (elements self.now) result }
     {
         let len = self.len();
         first_among(&self.places[0..len], mark)
@@ -78,10 +78,10 @@ impl<'a, E: Ordered + Copy> Table<'a, E> {
 
     // Tells that element and takes it out; the elements behind it move up.
     pub fn take_first(&mut self, mark: &E) -> Option<E>
-        ensures value { result ≡ first_from upto mark.now (elements self.old) }
-        ensures done { elements self.new ≡ taken_from upto mark.now (elements self.old) }
+        ensures value { result ≡ first_from E.upto mark.now (elements self.old) }
+        ensures done { elements self.new ≡ taken_from E.upto mark.now (elements self.old) }
         ensures none { IfNone result (Unchanged self.old self.new) }
-        ensures sorted { Sorted upto (elements self.old) → Sorted upto (elements self.new) }
+        ensures sorted { Sorted E.upto (elements self.old) → Sorted E.upto (elements self.new) }
         ensures rest { RestKept self.old self.new }
         ensures same { self.new.places.ghost_name ≡ self.old.places.ghost_name }
         ensures long { length self.new.places.now ≡ length self.old.places.now }

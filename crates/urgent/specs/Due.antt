@@ -1,12 +1,11 @@
 -- The order of due cells: by port, then due slot, then number.
-use Rattle.std.specs.Prelude.{◌≡◌, ℕ, ◌<◌, ◌≤◌, Bool, true, false, cond, leb, ◌⊎◌, ℤ, ◌<ℤ◌, int_le, nat_le, refl}
-use Rattle.std.proofs.Common.{sym, ap, ◌∙◌, inl, inr, arith}
+use Rattle.std.specs.Prelude.{◌≡◌, ℕ, ◌≤◌, Bool, true, false, cond, ◌⊎◌, ℤ, ◌<ℤ◌, int_le, nat_le, refl}
+use Rattle.std.proofs.Common.{sym, inl, inr, arith}
 use Rattle.std.proofs.lemmas.Int.{ints}
 use Rattle.std.proofs.lemmas.Bool.{leb-true, le-leb, cases_Bool, false≢true}
 use Rattle.table.specs.Kinds.{by, ◌then◌, due_upto}
 use Rattle.table.specs.declared.due.DueCell.{DueCell}
-use Rattle.table.proofs.Laws.{reflexive}
-use Rattle.table.specs.Lexical.{then_first, then_second, due_lawful}
+use Rattle.table.specs.Lexical.{then_first, then_second}
 use Rattle.urgent.specs.Slack.{mark, earliest}
 
 -- how an order by two parts comes about
@@ -15,24 +14,24 @@ then_both true true d h k = k refl
 then_both true false d h k = refl
 then_both false c d h k = absurd (false≢true h)
 
-le_z_same : (a b : ℤ) → int_le a b ≡ true → int_le b a ≡ true → a ≡ b
-le_z_same a b h k = grind (arith, ints)
+int_le_same : (a b : ℤ) → int_le a b ≡ true → int_le b a ≡ true → a ≡ b
+int_le_same a b h k = grind (arith, ints)
 
-leZ_less : (a b : ℤ) → int_le a b ≡ true → int_le b a ≡ false → a <ℤ b
-leZ_less a b h k = grind (arith, ints)
+int_le_less : (a b : ℤ) → int_le a b ≡ true → int_le b a ≡ false → a <ℤ b
+int_le_less a b h k = grind (arith, ints)
 
 -- not after is not past the port
 pub due_port : (x y : DueCell) → due_upto x y ≡ true → x.port ≤ y.port
-due_port x y h = leb-true x.port y.port (then_first (nat_le x.port y.port) (nat_le y.port x.port) ((by (λ d. d.due) int_le then by (λ d. d.cell) leb) x y) h)
+due_port x y h = leb-true x.port y.port (then_first (nat_le x.port y.port) (nat_le y.port x.port) ((by (λ d. d.due) int_le then by (λ d. d.cell) nat_le) x y) h)
 
 -- at one port: due before, or with it and of no higher number
 pub due_before : (x y : DueCell) → due_upto x y ≡ true → x.port ≡ y.port → (x.due <ℤ y.due) ⊎ ((x.due ≡ y.due) × (x.cell ≤ y.cell))
 due_before x y h e =
-    let inner = then_second (nat_le x.port y.port) (nat_le y.port x.port) ((by (λ d. d.due) int_le then by (λ d. d.cell) leb) x y) h (le-leb y.port x.port (omega arith)) in
+    let inner = then_second (nat_le x.port y.port) (nat_le y.port x.port) ((by (λ d. d.due) int_le then by (λ d. d.cell) nat_le) x y) h (le-leb y.port x.port (omega arith)) in
     let first = then_first (int_le x.due y.due) (int_le y.due x.due) (nat_le x.cell y.cell) inner in
     elim (cases_Bool (int_le y.due x.due)) [
-      | inl k ↦ inr (le_z_same x.due y.due first k, leb-true x.cell y.cell (then_second (int_le x.due y.due) (int_le y.due x.due) (nat_le x.cell y.cell) inner k))
-      | inr k ↦ inl (leZ_less x.due y.due first k)
+      | inl k ↦ inr (int_le_same x.due y.due first k, leb-true x.cell y.cell (then_second (int_le x.due y.due) (int_le y.due x.due) (nat_le x.cell y.cell) inner k))
+      | inr k ↦ inl (int_le_less x.due y.due first k)
     ]
 
 -- two due cells, neither after the other, are one

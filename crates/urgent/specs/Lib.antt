@@ -2,4 +2,4 @@ pub mod Slack
 pub mod Queue
 pub mod Sound
 pub mod Due
-pub mod LeastSlackDisciplineLemmas
+pub mod Picks

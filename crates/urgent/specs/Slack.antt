@@ -1,5 +1,5 @@
 -- Least slack first: what a queue of due cells and the stays of its cells have to do with each other.
-use Rattle.std.specs.Prelude.{◌≡◌, ℕ, ◌-◌, ◌^◌, ◌<◌, ◌≤◌, true, List, [], ◌∷◌, length, ℤ, negsuc, is_some, Some, None, Option, int_le, slice_index, slice_index_or}
+use Rattle.std.specs.Prelude.{◌≡◌, ℕ, ◌-◌, ◌^◌, ◌<◌, ◌≤◌, true, List, length, ℤ, negsuc, is_some, Some, None, Option, int_le, slice_index, slice_index_or}
 use Rattle.std.specs.List.{ContainsAt as Has, AllByRecursion as All}
 use Rattle.discipline.specs.Meaning.{Waiting, passing, count_at}
 use Rattle.discipline.specs.declared.stay.Stay.{Stay}

@@ -1,11 +1,11 @@
 -- A sound queue with one cell more, with one less, and its most urgent cell.
-use Rattle.std.specs.Prelude.{◌≡◌, ℕ, ◌+◌, ◌-◌, ◌^◌, ◌<◌, ◌≤◌, Bool, true, false, cond, ◌⊎◌, List, [], ◌∷◌, length, replicate, ℤ, pos, negsuc, ◌<ℤ◌, is_some, Some, None, Option, FitsSigned, ◌≢◌, int_le, slice_index, slice_set, refl}
+use Rattle.std.specs.Prelude.{◌≡◌, ℕ, ◌+◌, ◌-◌, ◌^◌, ◌<◌, ◌≤◌, Bool, true, false, cond, ◌⊎◌, List, [], length, replicate, ℤ, pos, negsuc, ◌<ℤ◌, is_some, Some, None, Option, FitsSigned, ◌≢◌, int_le, slice_index, slice_set, refl}
 use Rattle.std.proofs.Common.{sym, ap, subst, ◌∙◌, inl, inr, arith, length-set}
 use Rattle.std.specs.Int.{w64}
 use Rattle.std.specs.List.{ContainsAt as Has, AllByRecursion as All}
 use Rattle.std.proofs.ByRecursion.{All-weaker, all-has}
 use Rattle.std.proofs.lemmas.List.{get_or-set_same, get_or-set_other, get_or_past, get_or-replicate}
-use Rattle.std.proofs.lemmas.Bool.{cases_eq, cases_lt, eqb-true, eq-eqb, ne_eqb, le-leb, true≢false, false≢true}
+use Rattle.std.proofs.lemmas.Bool.{cases_eq, cases_lt, eq-eqb, ne_eqb, le-leb, true≢false}
 use Rattle.discipline.specs.Meaning.{Waiting, At, Same, Limits, stays_at, waits_at_lem, passing, count_at, with_cell, without_cell, MostUrgent, Before, due_of}
 use Rattle.discipline.specs.declared.stay.Stay.{Stay}
 use Rattle.refusal.proofs.Options.{none_some, some_one}

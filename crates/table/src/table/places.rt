@@ -7,7 +7,7 @@ use crate::order::Ordered;
 
 // How many elements at the front of `xs` are not after `e`.
 fn count_not_after<E: Ordered>(xs: &[E], e: &E) -> usize
-    ensures value { result ≡ front (λ x. upto x e.now) xs.now }
+    ensures value { result ≡ front (λ x. E.upto x e.now) xs.now }
     ensures bound { result ≤ length xs.now }
 {
     for (i, x) in xs.iter().enumerate() {
@@ -20,7 +20,7 @@ fn count_not_after<E: Ordered>(xs: &[E], e: &E) -> usize
 
 // How many elements at the front of `xs` are before the mark.
 fn count_before<E: Ordered>(xs: &[E], mark: &E) -> usize
-    ensures value { result ≡ front (λ x. not (upto mark.now x)) xs.now }
+    ensures value { result ≡ front (λ x. not (E.upto mark.now x)) xs.now }
     ensures bound { result ≤ length xs.now }
 {
     for (i, x) in xs.iter().enumerate() {
@@ -59,7 +59,7 @@ fn close_at<E: Copy>(places: &mut [E], len: usize, at: usize)
 // Puts `e` among the first `len` places, behind those at the front that are not after it.
 pub fn put_among<E: Ordered + Copy>(places: &mut [E], len: usize, e: E)
     requires { len < length places.old }
-    ensures elements { take (len + 1) places.new ≡ put_in upto e (take len places.old) }
+    ensures elements { take (len + 1) places.new ≡ put_in E.upto e (take len places.old) }
     ensures rest { drop (len + 1) places.new ≡ drop (len + 1) places.old }
 {
     let at = count_not_after(&places[0..len], &e);
@@ -68,7 +68,7 @@ pub fn put_among<E: Ordered + Copy>(places: &mut [E], len: usize, e: E)
 
 // The first of the elements that is not before the mark.
 pub fn first_among<E: Ordered + Copy>(xs: &[E], mark: &E) -> Option<E>
-    ensures { result ≡ first_from upto mark.now xs.now }
+    ensures { result ≡ first_from E.upto mark.now xs.now }
 {
     let at = count_before(xs, mark);
     if at < xs.len() { Some(xs[at]) } else { None }
@@ -77,8 +77,8 @@ pub fn first_among<E: Ordered + Copy>(xs: &[E], mark: &E) -> Option<E>
 // The first among the first `len` places that is not before the mark; it is taken out of them.
 pub fn take_among<E: Ordered + Copy>(places: &mut [E], len: usize, mark: &E) -> Option<E>
     requires { len ≤ length places.old }
-    ensures value { result ≡ first_from upto mark.now (take len places.old) }
-    ensures done { MatchOption result (places.new ≡ places.old) (λ _. (0 < len) × (take (len - 1) places.new ≡ taken_from upto mark.now (take len places.old)) × (drop (len - 1) places.new ≡ drop (len - 1) places.old)) }
+    ensures value { result ≡ first_from E.upto mark.now (take len places.old) }
+    ensures done { MatchOption result (places.new ≡ places.old) (λ _. (0 < len) × (take (len - 1) places.new ≡ taken_from E.upto mark.now (take len places.old)) × (drop (len - 1) places.new ≡ drop (len - 1) places.old)) }
 {
     let at = count_before(&places[0..len], mark);
     if at >= len {

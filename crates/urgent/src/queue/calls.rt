@@ -5,7 +5,7 @@ ghost use Rattle.urgent.specs.Queue.{waiting_in, choice_of, SoundQueue, Becomes}
 ghost use Rattle.urgent.specs.Sound;
 ghost use Rattle.urgent.specs.Sound.{most_urgent_lem, next_told, in_range, same_without};
 ghost use Rattle.urgent.specs.Slack.{waiting_by};
-ghost use Rattle.urgent.specs.LeastSlackDisciplineLemmas.{some_waits};
+ghost use Rattle.urgent.specs.Picks.{some_waits};
 
 use crate::queue::LeastSlack;
 use crate::store::Store;

@@ -15,9 +15,9 @@ returns-in_err-x g c =
     let none = told_here le xs ys n len all m None c.in_err-x.ensures.value in
     let kept : ys ≡ xs = c.in_err-x.ensures.done in
     record {
-      value = c.from-residual.ensures ∙ none;
+      value = c.from_residual.ensures ∙ none;
       done = none_taken le xs ys n len all m kept none;
-      none = rw c.from-residual.ensures (ap (take n) kept, kept);
+      none = rw c.from_residual.ensures (ap (take n) kept, kept);
       sorted = none_sorted le xs ys n len all m kept;
       rest = ap (drop (length (take n ys))) kept;
       same = refl {a = c.args.self.now.places.ghost_name};

@@ -1,4 +1,4 @@
-use Rattle.std.proofs.Common.{◌≡◌, ℕ, ◌+◌, ◌<◌, ◌≤◌, leb, length, get_or, set, Ok, Err, Result, sym, refl, ap, ◌∙◌, arith, w64, SFits, rules}
+use Rattle.std.proofs.Common.{◌≡◌, ℕ, ◌+◌, ◌<◌, nat_le, get_or, set, Ok, Err, Result, refl, ap, ◌∙◌, arith, w64, SFits, rules}
 use Rattle.std.proofs.lemmas.Int.{to_z-of_z}
 use Rattle.std.proofs.lemmas.Bool.{lt-leb}
 use Rattle.table.specs.Kinds.{due_upto}
@@ -6,7 +6,6 @@ use Rattle.table.specs.Order.{put_in}
 use Rattle.refusal.specs.Tests.{tested, when}
 use Rattle.refusal.specs.declared.Refusal.{Refusal}
 use Rattle.refusal.specs.declared.Refusal.TheVariants.{NoPlace}
-use Rattle.discipline.specs.Meaning.{count_at}
 use Rattle.discipline.proofs.Counting.{passing_few}
 use Rattle.discipline.specs.Meaning.{waits_at_lem}
 use Rattle.urgent.specs.Slack.{waiting_by}
@@ -14,7 +13,7 @@ use Rattle.urgent.specs.Sound.{has_room, sound_add, sound_as, not_too_early}
 use Rattle.urgent.proofs.queue.LeastSlack.add.Goals as goal
 
 -- where there is room no put is refused
-never_full : (a b : ℕ) (e : Refusal) → b < a → Err e ≡ tested (when (leb a b) NoPlace) → ⊥
+never_full : (a b : ℕ) (e : Refusal) → b < a → Err e ≡ tested (when (nat_le a b) NoPlace) → ⊥
 never_full a b e l h =
     let f : ◌≡◌ {A = Result (Unit {0}) Refusal} (Err e) (Ok tt) = h ∙ ap (λ t. tested (when t NoPlace)) (lt-leb a b l) in
     let z : ◌≡◌ {A = ℕ} 0 1 = cc in omega arith

@@ -1,11 +1,9 @@
-use Rattle.std.proofs.Common.{◌≡◌, ℕ, ◌-◌, ◌<◌, ◌≤◌, eqb, ltb, length, get_or, set, Some, None, Option, sym, refl, ap, ◌∙◌, subst, arith, rules}
+use Rattle.std.proofs.Common.{◌≡◌, ℕ, ◌-◌, ◌<◌, ◌≤◌, eqb, get_or, set, Some, None, Option, sym, ap, ◌∙◌, arith}
 use Rattle.std.proofs.lemmas.Bool.{le-ltb, ne_eqb}
 use Rattle.refusal.specs.Tests.{when, or_else}
 use Rattle.refusal.specs.declared.Refusal.TheVariants.{OutOfRange, NoneWaits}
 use Rattle.discipline.specs.Calls.{pick_test}
 use Rattle.discipline.specs.Meaning.{Waiting, count_at}
-use Rattle.table.specs.Kinds.{due_upto}
-use Rattle.table.specs.Order.{first_from, taken_from}
 use Rattle.table.specs.declared.due.DueCell.{DueCell}
 use Rattle.urgent.specs.Slack.{waiting_by, next_due, mark, due_cell}
 use Rattle.urgent.specs.Sound.{next_told, sound_remove, sound_as}

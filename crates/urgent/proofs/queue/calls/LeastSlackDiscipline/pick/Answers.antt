@@ -9,4 +9,4 @@ weaker o d e (Ok x) P Q f h = (h.0, f x h.1)
 weaker o d e (Err r) P Q f h = h
 
 pub returns : goal.returns
-returns g c ok = weaker _ _ _ c.take.result _ _ (λ x h. h c.args.-slot) (c.take.ensures ok)
+returns g c ok = weaker _ _ _ c.take.result _ _ (λ x h. h c.args._slot) (c.take.ensures ok)

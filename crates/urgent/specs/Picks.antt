@@ -1,3 +1,4 @@
+-- What a pick that passes its test finds.
 use Rattle.std.specs.Prelude.{◌≡◌, ℕ, ◌<◌, None, ◌==◌, nat_lt}
 use Rattle.std.proofs.Common.{arith}
 use Rattle.std.proofs.lemmas.Bool.{eqb-false}
