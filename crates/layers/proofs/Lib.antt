@@ -1,6 +1,1 @@
 mod Answering
-mod Joining
-mod Limited
-mod Noting
-mod Scanning
-mod Ways

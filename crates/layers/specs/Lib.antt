@@ -1,3 +1,10 @@
 pub mod Ages
 pub mod Halves
 pub mod Making
+pub mod Ways
+pub mod Limited
+pub mod Joining
+pub mod Noting
+pub mod Scanning
+pub mod JoinedLaws
+pub mod AgedLaws

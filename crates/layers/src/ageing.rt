@@ -4,6 +4,8 @@ ghost use Rattle.std.specs.Prelude.{◌≡◌, ◌<◌, ◌||◌, ◌==◌, nat_
 ghost use Rattle.discipline.specs.Meaning.{Empty};
 ghost use Rattle.layers.specs.Ages.{old, AgedPick, earlier_of, oldest_below, aged_choice, Noted, Held};
 ghost use Rattle.layers.specs.Making.{Tested};
+ghost use Rattle.layers.specs.Scanning.{lawful_aged};
+ghost use Rattle.layers.specs.AgedLaws.{arrived_aged, picked_aged, withdrawn_aged};
 
 use crate::asks::waits_at;
 use discipline::{Discipline, holds_none};
@@ -101,6 +103,14 @@ impl<D: Discipline> Discipline for Ageing<D> {
     ghost withdraws = { λ d p c e. (e.age ≡ d.age) × (e.slots ≡ d.slots) × D.Discipline.withdraws d.below p c e.below };
 
     ghost limits = { λ d s. D.Discipline.limits d.below s.0 };
+
+    ghost chosen = { λ d s p t. lawful_aged (D.Discipline.waiting d.below) d.age p t (D.Discipline.limits d.below s.0) (D.Discipline.choice d.below p t) (D.Discipline.chosen d.below s.0 p t) };
+
+    ghost arrived = { λ d p c f t u e s h x. arrived_aged (D.Discipline.waiting d.below) (D.Discipline.waiting e.below) d.slots e.slots (D.Discipline.sound e.below) p c f (record { port = p; slot = t; due = u }) s.1 h x.1 (D.Discipline.arrived d.below p c f t u e.below s.0 h x.2) };
+
+    ghost picked = { λ d p t c e s h x. picked_aged (D.Discipline.waiting d.below) (D.Discipline.waiting e.below) d.slots e.slots (D.Discipline.sound e.below) d.age p t c (D.Discipline.choice d.below p t) (D.Discipline.withdraws d.below p c e.below) (D.Discipline.picks d.below p t c e.below) s.1 (D.Discipline.limits d.below s.0) h x.1 x.2 (D.Discipline.withdrawn d.below p c e.below s.0) (D.Discipline.picked d.below p t c e.below s.0 h) };
+
+    ghost withdrawn = { λ d p c e s h x. withdrawn_aged (D.Discipline.waiting d.below) (D.Discipline.waiting e.below) d.slots e.slots (D.Discipline.sound e.below) c s.1 x.1 (D.Discipline.withdrawn d.below p c e.below s.0 h x.2) };
 
     fn arrive(
         &mut self,

@@ -4,6 +4,8 @@ ghost use Rattle.std.specs.Prelude.{◌≡◌, ◌==◌, nat_lt};
 ghost use Rattle.discipline.specs.Meaning.{count_at, waits_at_lem, Empty};
 ghost use Rattle.layers.specs.Halves.{joined, half_choice, Either, BothSound};
 ghost use Rattle.layers.specs.Making.{Tested};
+ghost use Rattle.layers.specs.Joining.{limits_joined, lawful_joined};
+ghost use Rattle.layers.specs.JoinedLaws.{arrived_joined, picked_joined, withdrawn_joined};
 
 use crate::asks::{waits, waits_at};
 use discipline::{Discipline, holds_none};
@@ -57,6 +59,16 @@ impl<F: Discipline, S: Discipline> Discipline for Classes<F, S> {
     ghost picks = { λ d p t c e. (e.below ≡ d.below) × Either (count_at (F.Discipline.waiting d.first) p == 0) (S.Discipline.picks d.second p t c e.second × (e.first ≡ d.first)) (F.Discipline.picks d.first p t c e.first × (e.second ≡ d.second)) };
 
     ghost withdraws = { λ d p c e. (e.below ≡ d.below) × Either (waits_at_lem (F.Discipline.waiting d.first) p c) (F.Discipline.withdraws d.first p c e.first × (e.second ≡ d.second)) (S.Discipline.withdraws d.second p c e.second × (e.first ≡ d.first)) };
+
+    ghost limits = { λ d s. limits_joined (F.Discipline.waiting d.first) (S.Discipline.waiting d.second) (F.Discipline.limits d.first s.0) (S.Discipline.limits d.second s.1) };
+
+    ghost chosen = { λ d s p t. lawful_joined (F.Discipline.waiting d.first) (S.Discipline.waiting d.second) p (F.Discipline.choice d.first p t) (S.Discipline.choice d.second p t) (F.Discipline.limits d.first s.0) (S.Discipline.limits d.second s.1) s.2 (F.Discipline.chosen d.first s.0 p t) (S.Discipline.chosen d.second s.1 p t) };
+
+    ghost arrived = { λ d p c f t u e s h x. arrived_joined F.Discipline.waiting S.Discipline.waiting F.Discipline.sound S.Discipline.sound d.first e.first d.second e.second p c f (record { port = p; slot = t; due = u }) (nat_lt f d.below) (F.Discipline.arrives d.first p c f t u e.first) (S.Discipline.arrives d.second p c f t u e.second) s h x.1 (F.Discipline.arrived d.first p c f t u e.first s.0) (S.Discipline.arrived d.second p c f t u e.second s.1) };
+
+    ghost picked = { λ d p t c e s h x. picked_joined F.Discipline.waiting S.Discipline.waiting F.Discipline.sound S.Discipline.sound d.first e.first d.second e.second p c (F.Discipline.choice d.first p t) (S.Discipline.choice d.second p t) (F.Discipline.picks d.first p t c e.first) (S.Discipline.picks d.second p t c e.second) s h x.1 (F.Discipline.chosen d.first s.0 p t) (S.Discipline.chosen d.second s.1 p t) (F.Discipline.picked d.first p t c e.first s.0) (S.Discipline.picked d.second p t c e.second s.1) };
+
+    ghost withdrawn = { λ d p c e s h x. withdrawn_joined F.Discipline.waiting S.Discipline.waiting F.Discipline.sound S.Discipline.sound d.first e.first d.second e.second p c (F.Discipline.withdraws d.first p c e.first) (S.Discipline.withdraws d.second p c e.second) s h x.1 (F.Discipline.withdrawn d.first p c e.first s.0) (S.Discipline.withdrawn d.second p c e.second s.1) };
 
     fn arrive(
         &mut self,

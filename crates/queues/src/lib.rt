@@ -8,7 +8,6 @@ mod lifo;
 mod line;
 mod seek;
 
-use discipline::Discipline;
 pub use fifo::Fifo;
 pub use lifo::Lifo;
 

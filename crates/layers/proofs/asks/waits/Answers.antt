@@ -1,6 +1,6 @@
 use Rattle.std.proofs.Common.{is_some, sym, ap}
 use Rattle.std.proofs.lemmas.Bool.{ltb-true}
-use Rattle.layers.proofs.Limited.{past_limits, refused_told}
+use Rattle.layers.specs.Limited.{past_limits, refused_told}
 use Rattle.layers.proofs.asks.waits.Goals as goal
 
 pub returns-in-Err : goal.returns-in-Err

@@ -1,7 +1,7 @@
 use Rattle.std.proofs.Common.{sym, ap}
 use Rattle.std.proofs.lemmas.Bool.{ltb-true}
 use Rattle.discipline.specs.Meaning.{stays_at}
-use Rattle.layers.proofs.Limited.{past_limits, refused_told}
+use Rattle.layers.specs.Limited.{past_limits, refused_told}
 use Rattle.layers.proofs.asks.waits_at.Goals as goal
 
 pub returns-in-Err : goal.returns-in-Err

@@ -1,6 +1,6 @@
 use Rattle.std.proofs.Common.{◌-◌, ◌&&◌, leb, sym, ap, ◌∙◌}
 use Rattle.layers.specs.Ages.{slot_of}
-use Rattle.layers.proofs.Noting.{noted_slot}
+use Rattle.layers.specs.Noting.{noted_slot}
 use Rattle.layers.proofs.ageing.Ageing.is_old.Goals as goal
 
 pub returns-then-waits_at : goal.returns-then-waits_at

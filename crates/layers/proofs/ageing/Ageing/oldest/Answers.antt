@@ -1,6 +1,6 @@
 use Rattle.std.proofs.Common.{◌≡◌, ℕ, Option, sym, ◌∙◌, subst}
 use Rattle.layers.specs.Ages.{Held}
-use Rattle.layers.proofs.Scanning.{scan_none, scan_young, scan_noted}
+use Rattle.layers.specs.Scanning.{scan_none, scan_young, scan_noted}
 use Rattle.layers.proofs.ageing.Ageing.oldest.Goals as goal
 use Rattle.layers.proofs.ageing.Ageing.oldest.Goals.{then-is_old, else-is_old}
 

@@ -3,8 +3,8 @@ use Rattle.refusal.specs.declared.Refusal.{Refusal}
 use Rattle.refusal.specs.declared.Refusal.TheVariants.{OutOfRange}
 use Rattle.discipline.specs.Meaning.{count_at}
 use Rattle.layers.proofs.Answering.{answers_through}
-use Rattle.layers.proofs.Limited.{passed_told, pick_passes, at_limit, withdraw_passes}
-use Rattle.layers.proofs.Scanning.{old_at, whole_none, whole_some}
+use Rattle.layers.specs.Limited.{passed_told, pick_passes, at_limit, withdraw_passes}
+use Rattle.layers.specs.Scanning.{old_at, whole_none, whole_some}
 use Rattle.layers.proofs.ageing.AgeingDiscipline.pick.Goals as goal
 
 pub returns-in-Ok-withdraw : goal.returns-in-Ok-withdraw

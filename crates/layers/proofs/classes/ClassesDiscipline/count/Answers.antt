@@ -5,8 +5,8 @@ use Rattle.discipline.specs.Calls.{told}
 use Rattle.discipline.specs.Meaning.{waits_at_lem, count_at}
 use Rattle.discipline.proofs.Counting.{passing_few}
 use Rattle.layers.specs.Halves.{joined}
-use Rattle.layers.proofs.Joining.{count_joined}
-use Rattle.layers.proofs.Limited.{passed_told}
+use Rattle.layers.specs.Joining.{count_joined}
+use Rattle.layers.specs.Limited.{passed_told}
 use Rattle.layers.proofs.classes.ClassesDiscipline.count.Goals as goal
 
 pub returns-in-Ok-count : goal.returns-in-Ok-count

@@ -22,16 +22,12 @@ invariant_of-self c =
     let l = c.args.self.now in
     let long : length l.entries ≡ 256 = search rules in
     let wide : length l.counts ≡ 32 = search rules in
-    let free : l.len < 256 = room l long wide c.args.e c.requires.cell c.requires.port c.requires.new in (
-      omega arith,
-      (
-        put_proper l long wide c.args.e c.requires.cell c.requires.port c.requires.new,
-        (
-          put_counted l long wide c.args.e c.requires.cell c.requires.port c.requires.new,
-          tt,
-        ),
-      ),
-    )
+    let free : l.len < 256 = room l long wide c.args.e c.requires.cell c.requires.port c.requires.new in
+    record {
+      few = omega arith;
+      each_proper = put_proper l long wide c.args.e c.requires.cell c.requires.port c.requires.new;
+      counted = put_counted l long wide c.args.e c.requires.cell c.requires.port c.requires.new;
+    }
 
 pub returns : goal.returns
 returns c =

@@ -52,16 +52,12 @@ invariant_of-self c =
     let long : length l.entries ≡ 256 = search rules in
     let wide : length l.counts ≡ 32 = search rules in
     let f = l.few in
-    let in' = inside l c.args.at c.requires in (
-      omega arith,
-      (
-        gone_proper l long wide c.args.at in' c.close_at.new.places c.close_at.ensures,
-        (
-          gone_counted l long wide c.args.at in' c.close_at.new.places c.close_at.ensures,
-          tt,
-        ),
-      ),
-    )
+    let in' = inside l c.args.at c.requires in
+    record {
+      few = omega arith;
+      each_proper = gone_proper l long wide c.args.at in' c.close_at.new.places c.close_at.ensures;
+      counted = gone_counted l long wide c.args.at in' c.close_at.new.places c.close_at.ensures;
+    }
 
 pub returns : goal.returns
 returns c =

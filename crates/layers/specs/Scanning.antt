@@ -3,8 +3,8 @@ use Rattle.std.proofs.Common.{◌≡◌, ℕ, zero, suc, ◌+◌, ◌-◌, ◌<�
 use Rattle.std.proofs.lemmas.Bool.{cases_eq, cases_Bool, cases_lt, lt-ltb, le-ltb, and_parts}
 use Rattle.discipline.specs.Meaning.{Waiting, waits_at_lem, At, Limits, Lawful}
 use Rattle.layers.specs.Ages.{slot_of, old, Old, Earlier, Oldest, earlier_of, oldest_below, aged_choice, Noted}
-use Rattle.layers.proofs.Limited.{at_limit}
-use Rattle.layers.proofs.Noting.{noted_slot}
+use Rattle.layers.specs.Limited.{at_limit}
+use Rattle.layers.specs.Noting.{noted_slot}
 
 -- the scan of the cells below n has found none, or the oldest of them
 abbrev pub Found : Waiting → ℕ → ℕ → ℕ → ℕ → Option ℕ → Type 0

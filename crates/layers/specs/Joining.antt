@@ -9,7 +9,7 @@ use Rattle.discipline.specs.Calls.{arrive_test, pick_test, withdraw_test}
 use Rattle.discipline.specs.Meaning.{Waiting, stays_at, waits_at_lem, At, passing, count_at, Limits, Same, Lawful, with_cell, without_cell}
 use Rattle.discipline.proofs.Counting.{passing_yes, passing_no, passing_some, passing_find}
 use Rattle.layers.specs.Halves.{stay_of, joined, Apart, half_choice}
-use Rattle.layers.proofs.Limited.{at_limit}
+use Rattle.layers.specs.Limited.{at_limit}
 
 -- numbers that pass one of two tests, and none both
 pub passing_either : (n : ℕ) (f g h : ℕ → Bool) → ((k : ℕ) → ((f k ≡ false) × (h k ≡ g k)) ⊎ ((g k ≡ false) × (h k ≡ f k))) → passing n h ≡ passing n f + passing n g
