@@ -1,5 +1,5 @@
 -- A recording whose file is not refused.
-use Rattle.std.proofs.Common.{◌≡◌, ℕ, ◌<◌, ◌≤◌, Bool, true, false, not, eqb, ltb, leb, List, length, Some, None, Option, sym, refl, ap, ◌∙◌, arith}
+use Rattle.std.proofs.Common.{◌≡◌, ℕ, ◌<◌, Bool, true, false, not, eqb, ltb, leb, List, length, None, refl, ap, ◌∙◌}
 use Rattle.std.proofs.lemmas.Bool.{lt-leb}
 use Rattle.refusal.specs.Tests.{when, or_else}
 use Rattle.refusal.specs.declared.Refusal.TheVariants.{NoCells, RunNotEnded, UnknownItem, NoPlace}

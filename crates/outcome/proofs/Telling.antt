@@ -1,10 +1,10 @@
 -- What a sheet of a recording tells.
-use Rattle.std.proofs.Common.{◌≡◌, ℕ, ◌+◌, ◌<◌, ◌≤◌, Bool, true, false, ◌||◌, eqb, ltb, List, length, get_or, ℤ, pos, Some, None, unwrap_or, sym, refl, ap, ◌∙◌, arith}
+use Rattle.std.proofs.Common.{◌≡◌, ℕ, ◌+◌, ◌<◌, ◌||◌, ltb, List, length, get_or, ℤ, pos, None, unwrap_or, ap, ◌∙◌, arith}
 use Rattle.std.proofs.lemmas.Bool.{ltb-false, le-ltb, or_from}
 use Rattle.refusal.specs.Tests.{when, or_else}
 use Rattle.refusal.specs.declared.Refusal.TheVariants.{NoCells, NoPlace}
 use Rattle.layout.specs.Contents.{Content}
-use Rattle.layout.specs.declared.kind.Kind.TheVariants.{Recording as Kind-recording}
+use Rattle.layout.specs.declared.kind.Kind.TheVariants.{Recording as KindRecording}
 use Rattle.plan.specs.Cells.{hops_in}
 use Rattle.plan.specs.Plans.{delays_of, cells_of}
 use Rattle.plan.proofs.Facts.{few_cells_lem, few_hops}
@@ -30,7 +30,7 @@ module _ (r : Recording) (log : List HopRecord) (pass : file_test r log ≡ None
   -- it is the recording
   pub recorded : (slacks : (c : ℕ) → c < length (cells_of r.plan) → get_or xs c (pos 0) ≡ held_slack (slack_left r log c))
       → (slots : (k : ℕ) → k < length log → k < 2048 → get_or ss k 0 ≡ unwrap_or (get_or log k no_hop).sent 0)
-      → (x : Content) → Tells Kind-recording r.pile (delays_of r.plan) (cells_of r.plan) xs ss x → Recorded r log x
+      → (x : Content) → Tells KindRecording r.pile (delays_of r.plan) (cells_of r.plan) xs ss x → Recorded r log x
   recorded slacks slots x T =
       let p = passes r log pass in
       record {

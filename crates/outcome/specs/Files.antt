@@ -6,8 +6,8 @@ use Rattle.refusal.specs.declared.Refusal.{Refusal}
 use Rattle.refusal.specs.declared.Refusal.TheVariants.{NoCells, RunNotEnded, NoPlace}
 use Rattle.layout.specs.Contents.{Scheduled, Content, no_hop, no_scheduled}
 use Rattle.layout.specs.RoundTrip.{Written}
-use Rattle.layout.specs.declared.kind.Kind.TheVariants.{Recording as Kind-recording}
-use Rattle.plan.specs.Cells.{Planned, no_cell, hops_in}
+use Rattle.layout.specs.declared.kind.Kind.TheVariants.{Recording as KindRecording}
+use Rattle.plan.specs.Cells.{no_cell, hops_in}
 use Rattle.plan.specs.Plans.{delays_of, cells_of}
 use Rattle.rules.specs.Loads.{sent_in}
 use Rattle.rules.specs.declared.hop.HopRecord.{HopRecord}
@@ -29,7 +29,7 @@ pub record CellTold (r : Recording) (log : List HopRecord) (c : ℕ) (x : Schedu
 
 -- x is the recording: its ports, and each of its cells
 pub record Recorded (r : Recording) (log : List HopRecord) (x : Content) : Type 0 where
-  pub kind : x.kind ≡ Kind-recording
+  pub kind : x.kind ≡ KindRecording
   pub pile : x.pile ≡ r.pile
   pub delays : x.delays ≡ delays_of r.plan
   pub count : length x.cells ≡ length (cells_of r.plan)

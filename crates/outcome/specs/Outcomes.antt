@@ -1,5 +1,5 @@
 -- How each cell of a recording fared.
-use Rattle.std.specs.Prelude.{ℕ, ◌-◌, not, ◌||◌, List, length, ℤ, pos, ◌-ℤ◌, Option, nat_le, nat_lt, slice_index_or}
+use Rattle.std.specs.Prelude.{ℕ, ◌-◌, not, List, length, ℤ, pos, ◌-ℤ◌, Option, nat_le, nat_lt, slice_index_or}
 use Rattle.std.specs.Option.{unwrap_or}
 use Rattle.refusal.specs.Tests.{when, or_else}
 use Rattle.refusal.specs.declared.Refusal.{Refusal}

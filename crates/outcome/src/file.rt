@@ -8,7 +8,6 @@ ghost use Rattle.outcome.specs.Files.{held_slack, file_test, Filed};
 ghost use Rattle.outcome.specs.Outcomes.{slack_left};
 
 use crate::cell::outcome;
-use layout::Source;
 use refusal::Refusal;
 use rules::HopRecord;
 use run::Recording;

@@ -1,5 +1,5 @@
 -- Calls of `slot`, one after another.
-use Rattle.std.proofs.Common.{◌≡◌, ℕ, ◌+◌, ◌<◌, ◌≤◌, Bool, true, false, ◌||◌, ltb, leb, ◌⊎◌, List, length, ℤ, IfOk, IfErr, Ok, Err, Result, sym, refl, ap, ◌∙◌, subst, inl, inr, arith}
+use Rattle.std.proofs.Common.{◌≡◌, ℕ, ◌+◌, ◌≤◌, true, false, ◌⊎◌, List, length, ℤ, IfOk, IfErr, Ok, Err, Result, sym, ap, ◌∙◌, subst, inl, inr, arith}
 use Rattle.std.proofs.lemmas.Bool.{cases_Bool, le-ltb, or_from}
 use Rattle.refusal.specs.Tests.{tested, when, or_else}
 use Rattle.refusal.specs.declared.Refusal.{Refusal}
@@ -7,7 +7,6 @@ use Rattle.refusal.specs.declared.Refusal.TheVariants.{RunEnded, NoPlace}
 use Rattle.discipline.specs.Meaning.{Waiting}
 use Rattle.plan.specs.Cells.{hops_in}
 use Rattle.plan.specs.Plans.{cells_of}
-use Rattle.run.specs.Recordings.{network_of}
 use Rattle.run.specs.Slots.{Coherent, Performed, Calls, Called, AllGone, ended, too_short, slot_test}
 use Rattle.run.specs.Slots.Calls.{none, performed, refused}
 use Rattle.rules.specs.declared.hop.HopRecord.{HopRecord}

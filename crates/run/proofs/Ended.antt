@@ -1,15 +1,15 @@
 -- When a run has ended, and by when it does.
-use Rattle.std.proofs.Common.{◌≡◌, ℕ, zero, suc, ◌+◌, ◌-◌, ◌*◌, ◌<◌, ◌≤◌, min, Bool, true, false, cond, ◌||◌, eqb, ltb, leb, ◌⊎◌, List, [], ◌∷◌, length, get_or, Some, None, Option, unwrap_or, sym, refl, ap, ◌∙◌, subst, inl, inr, mul-le-mul_right, arith}
-use Rattle.std.proofs.lemmas.Bool.{cases_Bool, eq-eqb, ne_eqb, le-leb, leb-true, le-ltb, ltb-true, or_cases, or_left, or_right, false≢true}
+use Rattle.std.proofs.Common.{◌≡◌, ℕ, zero, suc, ◌+◌, ◌-◌, ◌*◌, ◌<◌, ◌≤◌, Bool, true, false, cond, ◌||◌, eqb, ltb, leb, List, [], ◌∷◌, length, get_or, Some, None, unwrap_or, sym, refl, ap, ◌∙◌, inl, inr, mul-le-mul_right, arith}
+use Rattle.std.proofs.lemmas.Bool.{cases_Bool, eq-eqb, ne_eqb, le-leb, leb-true, ltb-true, or_cases, or_left, or_right, false≢true}
 use Rattle.discipline.specs.Meaning.{Waiting, passing}
-use Rattle.discipline.proofs.Counting.{passing_few, passing_more, passing_same}
+use Rattle.discipline.proofs.Counting.{passing_few, passing_more}
 use Rattle.network.specs.Networks.{Network, Hop, Sound, sum, hops}
 use Rattle.network.proofs.Bound.{all_end}
 use Rattle.plan.specs.Cells.{Planned, no_cell, hops_in}
-use Rattle.plan.specs.Plans.{delays_of, cells_of}
+use Rattle.plan.specs.Plans.{cells_of}
 use Rattle.plan.proofs.Facts.{few_hops}
-use Rattle.rules.specs.Loads.{Sent, network, slots}
-use Rattle.rules.specs.Moments.{Moment, is_gone, Placed}
+use Rattle.rules.specs.Loads.{Sent, slots}
+use Rattle.rules.specs.Moments.{is_gone, Placed}
 use Rattle.run.specs.Recordings.{network_of, moment}
 use Rattle.rules.specs.Between.{Between}
 use Rattle.run.specs.Slots.{AllGone, ended}
@@ -17,7 +17,6 @@ use Rattle.rules.specs.declared.condition.Condition.{Condition}
 use Rattle.rules.specs.declared.condition.Condition.TheVariants as is
 use Rattle.rules.specs.declared.hop.HopRecord.{HopRecord}
 use Rattle.run.specs.declared.recording.Recording.{Recording}
-use Rattle.table.specs.declared.flight.Flight.{Flight}
 use Rattle.run.proofs.Networks as net
 
 -- the hops of all cells, counted from either end

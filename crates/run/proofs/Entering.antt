@@ -1,5 +1,5 @@
 -- A cell enters or lands.
-use Rattle.std.proofs.Common.{◌≡◌, ℕ, ◌+◌, ◌<◌, ◌≤◌, Bool, true, false, ◌||◌, ltb, List, length, get_or, set, ℤ, pos, is_some, Some, None, Ok, Err, Option, Result, sym, refl, ap, ◌∙◌, subst, inl, inr, arith}
+use Rattle.std.proofs.Common.{◌≡◌, ℕ, ◌<◌, false, ◌||◌, ltb, List, length, get_or, set, ℤ, pos, is_some, Some, None, Ok, Err, Option, Result, sym, refl, ap, ◌∙◌, subst, arith}
 use Rattle.std.proofs.lemmas.List.{get_or-set_same, get_or-set_other}
 use Rattle.std.proofs.lemmas.Bool.{le-ltb, or_from}
 use Rattle.refusal.proofs.Options.{none_some}
@@ -8,16 +8,14 @@ use Rattle.refusal.specs.declared.Refusal.{Refusal}
 use Rattle.refusal.specs.declared.Refusal.TheVariants.{OutOfRange, AlreadyWaits}
 use Rattle.discipline.specs.Calls.{arrive_test, Answers}
 use Rattle.discipline.specs.Meaning.{Waiting}
-use Rattle.discipline.specs.declared.stay.Stay.{Stay}
 use Rattle.network.specs.Networks.{Network, Hop, Sound}
 use Rattle.plan.specs.Plans.{cells_of, delays_of}
-use Rattle.rules.specs.Coherence.{Inside}
 use Rattle.rules.specs.Conditions.{next_condition}
-use Rattle.rules.specs.Loads.{Sent, network, flow_of, first_hop, sent_in}
-use Rattle.rules.specs.Moments.{Moment, pending, stay, Placed}
+use Rattle.rules.specs.Loads.{Sent, network, flow_of, sent_in}
+use Rattle.rules.specs.Moments.{pending, stay, Placed}
 use Rattle.run.specs.Offsets.{no_record}
 use Rattle.run.specs.Recordings.{network_of, flows, moment, Kept}
-use Rattle.rules.specs.Rules.{Arrives, goes_on}
+use Rattle.rules.specs.Rules.{Arrives}
 use Rattle.run.specs.Steps.{InSlot, Stands}
 use Rattle.rules.specs.declared.condition.Condition.{Condition}
 use Rattle.rules.specs.declared.condition.Condition.TheVariants as is

@@ -1,5 +1,5 @@
 -- Where hops lie in the hop log.
-use Rattle.std.proofs.Common.{◌≡◌, ℕ, zero, suc, ◌+◌, ◌<◌, ◌≤◌, List, [], ◌∷◌, length, get_or, take, refl, ap, arith}
+use Rattle.std.proofs.Common.{◌≡◌, ℕ, zero, suc, ◌+◌, ◌<◌, List, [], ◌∷◌, length, get_or, refl, ap, arith}
 use Rattle.plan.specs.Cells.{Planned, no_cell, hops_in}
 use Rattle.rules.specs.Loads.{first_hop}
 

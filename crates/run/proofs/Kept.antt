@@ -1,9 +1,7 @@
 -- What a call leaves as it was, a recording goes on with.
-use Rattle.std.proofs.Common.{◌≡◌, ℕ, List, ℤ, sym, ap, ◌∙◌, subst}
-use Rattle.discipline.specs.Meaning.{Waiting}
+use Rattle.std.proofs.Common.{ℕ, sym, ◌∙◌, subst}
 use Rattle.network.specs.Networks.{Network}
 use Rattle.plan.specs.Plans.{cells_of, delays_of}
-use Rattle.plan.specs.declared.plan.Plan.{Plan}
 use Rattle.rules.specs.Loads.{network, flow_of}
 use Rattle.run.specs.Recordings.{network_of, flows, Kept}
 use Rattle.run.specs.declared.recording.Recording.{Recording}

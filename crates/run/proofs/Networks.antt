@@ -1,5 +1,5 @@
 -- What the network of a plan keeps.
-use Rattle.std.proofs.Common.{◌≡◌, ℕ, ◌<◌, ◌≤◌, length, get_or, arith}
+use Rattle.std.proofs.Common.{ℕ, ◌<◌, ◌≤◌, length, arith}
 use Rattle.network.specs.Networks.{Network, Hop, Sound}
 use Rattle.plan.specs.Plans.{delays_of, cells_of}
 use Rattle.plan.specs.declared.plan.Plan.{Plan}

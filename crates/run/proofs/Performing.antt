@@ -1,5 +1,5 @@
 -- One slot of a recording: the cells that enter or land, then the ports.
-use Rattle.std.proofs.Common.{◌≡◌, ℕ, suc, ◌+◌, ◌<◌, ◌≤◌, List, length, ℤ, sym, refl, ap, ◌∙◌, subst, add-one, arith}
+use Rattle.std.proofs.Common.{◌≡◌, ℕ, suc, ◌+◌, ◌≤◌, List, length, ℤ, sym, ap, subst, add-one, arith}
 use Rattle.discipline.specs.Meaning.{Waiting}
 use Rattle.plan.specs.Cells.{hops_in}
 use Rattle.plan.specs.Plans.{delays_of, cells_of}

@@ -1,14 +1,11 @@
 -- The turn of a port.
-use Rattle.std.proofs.Common.{◌≡◌, ℕ, suc, ◌+◌, ◌<◌, ◌≤◌, Bool, true, false, cond, ◌||◌, eqb, ltb, leb, ◌⊎◌, List, length, get_or, set, ℤ, Some, None, Option, sym, refl, ap, ◌∙◌, subst, inl, inr, add-one, arith}
+use Rattle.std.proofs.Common.{◌≡◌, ℕ, suc, ◌+◌, ◌<◌, ◌≤◌, Bool, true, false, cond, ◌||◌, ltb, leb, List, length, get_or, set, ℤ, Some, None, sym, refl, ap, ◌∙◌, subst, inl, inr, add-one, arith}
 use Rattle.std.proofs.lemmas.List.{get_or-set_same, get_or-set_other}
-use Rattle.std.proofs.lemmas.Bool.{cases_eq, cases_lt, cases_Bool, eqb-false, lt-leb, false≢true}
+use Rattle.std.proofs.lemmas.Bool.{cases_eq, cases_lt, cases_Bool, lt-leb}
 use Rattle.refusal.proofs.Options.{none_some, some_one}
-use Rattle.refusal.specs.Tests.{when, or_else}
 use Rattle.refusal.specs.declared.Refusal.{Refusal}
-use Rattle.refusal.specs.declared.Refusal.TheVariants.{OutOfRange, NoneWaits}
 use Rattle.discipline.specs.Calls.{pick_test}
 use Rattle.discipline.specs.Meaning.{Waiting, At, waits_at_lem, count_at}
-use Rattle.discipline.specs.declared.stay.Stay.{Stay}
 use Rattle.discipline.proofs.Counting.{passing_find, passing_few}
 use Rattle.network.specs.Networks.{Network, Hop}
 use Rattle.plan.specs.Cells.{hops_in}
@@ -17,7 +14,7 @@ use Rattle.plan.proofs.Facts.{few_cells_lem, few_ports_lem}
 use Rattle.rules.specs.Coherence.{Inside, Flying, Ahead}
 use Rattle.rules.specs.Conditions.{next_condition}
 use Rattle.rules.specs.Loads.{sent_in, first_hop, no_hop}
-use Rattle.rules.specs.Moments.{Moment, pending, stay, is_gone, Placed}
+use Rattle.rules.specs.Moments.{pending, is_gone, Placed}
 use Rattle.run.specs.Offsets.{no_record}
 use Rattle.run.specs.Recordings.{network_of, flows, moment, Kept}
 use Rattle.rules.specs.Rules.{Sends, Served, But, goes_on, onward}
@@ -25,8 +22,7 @@ use Rattle.rules.specs.Rules.Served.{start, idle, sends}
 use Rattle.run.specs.Steps.{InSlot, Stands, SentOn, Flown, leaving, Serves, Turn, Turns}
 use Rattle.rules.specs.declared.condition.Condition.{Condition}
 use Rattle.rules.specs.declared.condition.Condition.TheVariants as is
-use Rattle.rules.specs.declared.condition.Event.TheVariants.{Sent as Is-sent}
-use Rattle.rules.specs.declared.condition.Onward.{Onward}
+use Rattle.rules.specs.declared.condition.Event.TheVariants.{Sent as IsSent}
 use Rattle.rules.specs.declared.condition.Onward.TheVariants.{Link, Out}
 use Rattle.rules.specs.declared.hop.HopRecord.{HopRecord}
 use Rattle.run.specs.declared.recording.Recording.{Recording}
@@ -123,15 +119,15 @@ module _ {D : Type 0} (waiting : D → Waiting) (choice : D → ℕ → ℕ → 
           ∙ ap (λ j. cond (goes_on N c h) (Link (h + 1) (t + get_or (delays_of r.plan) j 0)) Out) (sym port_is)
 
       own : q.records ≡ set r.records c
-          (record { condition = next_condition (get_or r.records c no_record).condition (Is-sent (leaving s t (get_or (delays_of r.plan) p 0))); first = (get_or r.records c no_record).first })
+          (record { condition = next_condition (get_or r.records c no_record).condition (IsSent (leaving s t (get_or (delays_of r.plan) p 0))); first = (get_or r.records c no_record).first })
       own = records ∙ sent.records
 
-      becomes : (get_or q.records c no_record).condition ≡ next_condition (get_or r.records c no_record).condition (Is-sent (onward N t c h))
+      becomes : (get_or q.records c no_record).condition ≡ next_condition (get_or r.records c no_record).condition (IsSent (onward N t c h))
       becomes =
           let few = net.cell_few r.plan c here.cell in
           let wide = r.wide in
           ap (λ x. (get_or x c no_record).condition) own ∙ ap (λ x. x.condition) (get_or-set_same r.records c _ no_record (omega arith))
-          ∙ ap (λ o. next_condition (get_or r.records c no_record).condition (Is-sent o)) leaving_is
+          ∙ ap (λ o. next_condition (get_or r.records c no_record).condition (IsSent o)) leaving_is
 
       place_is : s.place ≡ first_hop (cells_of r.plan) c + h
       place_is = S.5
@@ -197,10 +193,10 @@ module _ {D : Type 0} (waiting : D → Waiting) (choice : D → ℕ → ℕ → 
         idle_before = ap (pending N c) S.1.1
 
         next_pending : (b : Bool) → goes_on N c h ≡ b → pending N c (get_or q.records c no_record).condition ≡ cond b (Some (t + N.delay (N.port c h))) None
-        next_pending b g = ap (pending N c) (becomes ∙ ap (λ k. next_condition k (Is-sent (onward N t c h))) S.1.1
-            ∙ ap (λ x. next_condition (is.Waiting h S.1.0) (Is-sent (cond x (Link (h + 1) (t + N.delay (N.port c h))) Out))) g) ∙ by b
+        next_pending b g = ap (pending N c) (becomes ∙ ap (λ k. next_condition k (IsSent (onward N t c h))) S.1.1
+            ∙ ap (λ x. next_condition (is.Waiting h S.1.0) (IsSent (cond x (Link (h + 1) (t + N.delay (N.port c h))) Out))) g) ∙ by b
           where
-            by : (b : Bool) → pending N c (next_condition (is.Waiting h S.1.0) (Is-sent (cond b (Link (h + 1) (t + N.delay (N.port c h))) Out))) ≡ cond b (Some (t + N.delay (N.port c h))) None
+            by : (b : Bool) → pending N c (next_condition (is.Waiting h S.1.0) (IsSent (cond b (Link (h + 1) (t + N.delay (N.port c h))) Out))) ≡ cond b (Some (t + N.delay (N.port c h))) None
             by true = refl
             by false = refl
 

@@ -15,7 +15,7 @@ use Rattle.run.specs.Offsets.{no_record}
 use Rattle.run.specs.Recordings.{network_of, flows, moment, Kept}
 use Rattle.rules.specs.Rules.{Entered, Sends, Served, goes_on}
 use Rattle.rules.specs.declared.condition.Condition.TheVariants.{Waiting as Waits}
-use Rattle.rules.specs.declared.condition.Event.TheVariants.{Sent as Is-sent}
+use Rattle.rules.specs.declared.condition.Event.TheVariants.{Sent as IsSent}
 use Rattle.rules.specs.declared.condition.Onward.{Onward}
 use Rattle.rules.specs.declared.condition.Onward.TheVariants.{Link, Out}
 use Rattle.run.specs.declared.standing.Standing.{Standing}
@@ -45,7 +45,7 @@ leaving s t delay = cond s.goes_on (Link (s.position + 1) (t + delay)) Out
 pub record SentOn (r : Recording) (c : ℕ) (s : Standing) (delay : ℕ) (q : Recording) : Type 0 where
   pub same : Kept r q
   pub records : q.records ≡ slice_set r.records c
-      (record { condition = next_condition (slice_index_or r.records c no_record).condition (Is-sent (leaving s r.next delay)); first = (slice_index_or r.records c no_record).first })
+      (record { condition = next_condition (slice_index_or r.records c no_record).condition (IsSent (leaving s r.next delay)); first = (slice_index_or r.records c no_record).first })
   pub contested : q.contested ≡ r.contested
   pub gone : r.gone ≤ 256 → q.gone ≡ r.gone + cond s.goes_on 0 1
 

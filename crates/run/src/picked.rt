@@ -1,7 +1,7 @@
 // A cell that was picked and is to be sent.
 ghost use Rattle.std.specs.Prelude.{◌≡◌, ◌+◌, ◌<◌, false, length};
 ghost use Rattle.rules.specs.Conditions.{next_condition};
-ghost use Rattle.rules.specs.declared.condition.Event.TheVariants.{Sent as Is-sent};
+ghost use Rattle.rules.specs.declared.condition.Event.TheVariants.{Sent as IsSent};
 ghost use Rattle.rules.specs.declared.condition.Onward.TheVariants.{Link, Out};
 ghost use Rattle.table.specs.Elements.{elements, full};
 ghost use Rattle.table.specs.Kinds.{flight_upto};
@@ -21,7 +21,7 @@ pub(crate) struct Picked {
 impl Picked {
     // Puts the cell on the link to its next position, where it arrives in slot `until`.
     pub(crate) fn forward(self, own: &mut CellRecord, until: u32, flights: &mut Table<Flight>)
-        ensures condition { own.new.condition ≡ next_condition own.old.condition (Is-sent (Link (self.standing.position + 1) until)) }
+        ensures condition { own.new.condition ≡ next_condition own.old.condition (IsSent (Link (self.standing.position + 1) until)) }
         ensures first { own.new.first ≡ own.old.first }
         ensures flights { full flights.old ≡ false → elements flights.new ≡ put_in flight_upto (record { slot = until; cell = self.cell }) (elements flights.old) }
         ensures same { flights.new.places.ghost_name ≡ flights.old.places.ghost_name }
@@ -39,7 +39,7 @@ impl Picked {
 
     // Lets the cell out.
     pub(crate) fn let_out(self, own: &mut CellRecord)
-        ensures condition { own.new.condition ≡ next_condition own.old.condition (Is-sent Out) }
+        ensures condition { own.new.condition ≡ next_condition own.old.condition (IsSent Out) }
         ensures first { own.new.first ≡ own.old.first }
     {
         let Picked {

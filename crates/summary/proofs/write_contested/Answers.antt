@@ -4,7 +4,7 @@ use Rattle.std.proofs.lemmas.Result.{IfOk-weaker}
 use Rattle.std.proofs.lemmas.Bool.{cond-true, cond-false}
 use Rattle.summary.specs.Summaries.{feed, nonempty, port_part, ports_part, contested_ports, contested_line}
 use Rattle.summary.proofs.Calls.{wrote, appends}
-use Rattle.summary.proofs.write_contested.Goals.{then_Found, else-found}
+use Rattle.summary.proofs.write_contested.Goals.{then-found, else-found}
 use Rattle.summary.proofs.write_contested.Goals as goal
 
 -- what stands behind the ports
@@ -33,7 +33,7 @@ returns c =
     let found : c.in_ok-found.found ≡ nonempty ps = c.in_ok-found.ensures.0 in
     let ports : string_bytes c.write_ports.new.text ≡ string_bytes c.write.new.self ++ flat_map port_part ps = c.in_ok-found.ensures.1 in
     let end : c.if-found.end.now ≡ end_of ps = elim c.if-found.branch [
-      | then_Found w ↦ ap (λ x. x.now) w.end-is ∙ sym (cond-true (nonempty ps) [] (codes " none") (sym found ∙ w.if-found.true))
+      | then-found w ↦ ap (λ x. x.now) w.end-is ∙ sym (cond-true (nonempty ps) [] (codes " none") (sym found ∙ w.if-found.true))
       | else-found w ↦ ap (λ x. x.now) w.end-is ∙ sym (cond-false (nonempty ps) [] (codes " none") (sym found ∙ w.if-found.false))
     ] in
     appends c.writeln.result start (contested_line c.args.recording.now) (string_bytes c.writeln.new.self) c.or-2.ensures

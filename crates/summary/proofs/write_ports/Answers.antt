@@ -6,7 +6,7 @@ use Rattle.plan.specs.Plans.{delays_of}
 use Rattle.run.specs.Asking.{port_test}
 use Rattle.summary.specs.Summaries.{port_part, nonempty, flagged}
 use Rattle.summary.proofs.Calls.{told_is, wrote}
-use Rattle.summary.proofs.write_ports.Goals.{then-branch+in-ok-or, else-branch}
+use Rattle.summary.proofs.write_ports.Goals.{then-branch+in_ok-or, else-branch}
 use Rattle.summary.proofs.write_ports.Goals as goal
 
 nonempty_push : (xs : List ℕ) (x : ℕ) → nonempty (xs ++ x ∷ []) ≡ true
@@ -28,7 +28,7 @@ loop-port-preserved c =
     let flag = told_is (port_test (delays_of r.plan) i) (get_or r.contested i false) _ c.in_ok-contested.ensures in
     let inv : (c.loop-port.found ≡ nonempty (flagged r.contested i)) × (string_bytes c.loop-port.text ≡ start ++ flat_map port_part (flagged r.contested i)) = c.loop-port.invariant in
     elim c.if-branch.branch [
-      | then-branch+in-ok-or w ↦
+      | then-branch+in_ok-or w ↦
           let more = flagged_more r.contested i (sym flag ∙ w.if-branch.true) in
           let piece : string_bytes w.write.new.self ≡ string_bytes c.loop-port.text ++ port_part i =
           wrote w.write.result w.in_ok-or.field-0 w.in_ok-or.ensures w.write.ensures.bytes in (

@@ -6,7 +6,7 @@ use Rattle.refusal.proofs.Options.{none_some}
 use Rattle.plan.specs.Plans.{cells_of, delays_of}
 use Rattle.rules.specs.declared.hop.HopRecord.{HopRecord}
 use Rattle.run.specs.declared.recording.Recording.{Recording}
-use Rattle.layout.specs.declared.kind.Kind.TheVariants.{Recording as Kind-recording}
+use Rattle.layout.specs.declared.kind.Kind.TheVariants.{Recording as KindRecording}
 use Rattle.sheet.specs.Sheets.{Tells, content_of, sheet_test}
 use Rattle.outcome.specs.Files.{file_test, Filed}
 use Rattle.outcome.proofs.Telling.{sheet_passes, recorded}
@@ -41,8 +41,8 @@ returns c =
     let ss = c.slots_of-slots.result in
     let x = content_of c.in_ok-sheet.sheet in
     let pass = passed (file_test r log) c.in_ok-test_file.ensures in
-    let T = subst (λ q. Tells Kind-recording q (delays_of r.plan) (cells_of r.plan) xs ss x) c.pile.ensures
-    (subst (λ p. Tells Kind-recording c.pile.result (delays_of p) (cells_of p) xs ss x) c.plan.ensures c.in_ok-sheet.ensures.answers.1) in
+    let T = subst (λ q. Tells KindRecording q (delays_of r.plan) (cells_of r.plan) xs ss x) c.pile.ensures
+    (subst (λ p. Tells KindRecording c.pile.result (delays_of p) (cells_of p) xs ss x) c.plan.ensures c.in_ok-sheet.ensures.answers.1) in
     subst (λ t. Filed t r log c.args.out.now c.write.result c.write.new.out) (sym pass) (
       x,
       recorded r log pass xs ss c.slacks_of-slacks.ensures.long c.slots_of-slots.ensures.long c.slacks_of-slacks.ensures.slacks c.slots_of-slots.ensures.slots x T,

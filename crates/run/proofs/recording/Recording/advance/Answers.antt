@@ -1,4 +1,4 @@
-use Rattle.std.proofs.Common.{◌≡◌, ◌+◌, ◌≤◌, length, take, sym, refl, ap, ◌∙◌, subst, arith, rules}
+use Rattle.std.proofs.Common.{◌≡◌, ℕ, ◌+◌, List, length, take, sym, ap, ◌∙◌, subst, arith}
 use Rattle.plan.specs.Cells.{hops_in}
 use Rattle.plan.specs.Plans.{cells_of}
 use Rattle.table.specs.Elements.{elements}
@@ -6,7 +6,7 @@ use Rattle.rules.specs.Coherence.{Flying}
 use Rattle.run.specs.Recordings.{network_of, moment}
 use Rattle.rules.proofs.Disciplines.{Laws}
 use Rattle.run.proofs.Kept.{kept_again}
-use Rattle.run.proofs.Performing.{Done, done}
+use Rattle.run.proofs.Performing.{done}
 use Rattle.run.proofs.recording.Recording.advance.Given as given
 use Rattle.run.proofs.recording.Recording.advance.Goals as goal
 
@@ -17,6 +17,10 @@ laws g = record {
   arrived = g.met.D.Discipline.arrived;
   picked = g.met.D.Discipline.picked;
 }
+
+-- What a table holds is what the memory holds that it gives back.
+given_back : {A : Type 0} (places memory : List A) (n : ℕ) {xs : List A} → take n places ≡ xs → memory ≡ places → xs ≡ take n memory
+given_back places memory n e m = sym (ap (take n) m ∙ e)
 
 pub returns : goal.returns
 returns g c = λ C.
@@ -32,7 +36,6 @@ returns g c = λ C.
     q K c.enter_all.new.queue (elements c.enter_all.new.flights) c.enter_all.ensures.enters
     (length c.enter_all.new.flights.places.now) (let a = C.room in omega arith)
     p J c.serve_all.new.log c.serve_all.new.queue (elements c.serve_all.new.flights) c.serve_all.ensures.turns in
-    let memory : c.flights·1.given.0 ≡ c.serve_all.new.flights.places.now = grind arith in
     record {
       plan = M.plan;
       pile = M.pile;
@@ -41,13 +44,12 @@ returns g c = λ C.
       coherent = record {
         between = X.between;
         flying = subst (Flying (network_of p) (moment p c.serve_all.new.log c.serve_all.new.queue).condition)
-            (sym (ap (take c.len-self.result) memory ∙ c.len-self.ensures.places)) X.flying;
+            (given_back c.serve_all.new.flights.places.now _ c.len-self.result c.len-self.ensures.places (grind arith)) X.flying;
         room = (
             let a = C.room in
             let b = ap (λ x. length (cells_of x)) M.plan in
-            let d = ap length memory in
             let e = c.serve_all.ensures.long in
-            omega arith);
+            grind arith);
         long = (
             let a = C.long in
             let b = ap (λ x. hops_in (cells_of x)) M.plan in

@@ -1,4 +1,4 @@
-use Rattle.std.proofs.Common.{◌≡◌, arith, rules}
+use Rattle.std.proofs.Common.{arith}
 use Rattle.run.proofs.Networks.{cell_few}
 use Rattle.run.proofs.Entering.{stands_somewhere, arrives_so}
 use Rattle.run.proofs.recording.Recording.enter.Goals as goal

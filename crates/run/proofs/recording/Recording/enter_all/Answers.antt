@@ -1,4 +1,4 @@
-use Rattle.std.proofs.Common.{length, sym, refl, ap, ◌∙◌, arith}
+use Rattle.std.proofs.Common.{length, refl, ap, ◌∙◌, arith}
 use Rattle.table.specs.Elements.{elements}
 use Rattle.table.specs.Kinds.{flight_upto}
 use Rattle.table.proofs.Laws.{length_taken_from}

@@ -1,4 +1,4 @@
-use Rattle.std.proofs.Common.{◌≡◌, ◌<◌, length, set, refl, ap, ◌∙◌, arith, length-set, rules}
+use Rattle.std.proofs.Common.{set, refl, ap, ◌∙◌, arith, length-set}
 use Rattle.plan.specs.Plans.{cells_of}
 use Rattle.run.proofs.Records.{offsets_set}
 use Rattle.run.proofs.recording.Recording.happen.Goals as goal
@@ -6,16 +6,13 @@ use Rattle.run.proofs.recording.Recording.happen.Goals as goal
 pub invariant_of-self : goal.invariant_of-self
 invariant_of-self c =
     let self = c.args.self.now in
-    let wide = self.wide in (
-      length-set self.records c.args.cell c.happen.new.self ∙ self.wide,
-      (
-        self.broad,
-        (
-          offsets_set (cells_of self.plan) self.records c.args.cell c.happen.new.self (omega arith) c.happen.ensures.first self.offsets,
-          (self.bounded, tt),
-        ),
-      ),
-    )
+    let wide = self.wide in
+    record {
+      wide = length-set self.records c.args.cell c.happen.new.self ∙ self.wide;
+      broad = self.broad;
+      offsets = offsets_set (cells_of self.plan) self.records c.args.cell c.happen.new.self (omega arith) c.happen.ensures.first self.offsets;
+      bounded = self.bounded;
+    }
 
 pub returns : goal.returns
 returns c = record {

@@ -1,4 +1,4 @@
-use Rattle.std.proofs.Common.{◌≡◌, ℕ, ◌+◌, Bool, true, false, cond, get_or, set, sym, refl, ap, ◌∙◌, arith, rules}
+use Rattle.std.proofs.Common.{◌≡◌, ℕ, ◌+◌, true, false, cond, get_or, set, sym, refl, ap, ◌∙◌, arith}
 use Rattle.plan.specs.Plans.{delays_of}
 use Rattle.table.specs.Elements.{elements}
 use Rattle.table.specs.Kinds.{flight_upto}
@@ -6,7 +6,7 @@ use Rattle.table.specs.Order.{put_in}
 use Rattle.rules.specs.Conditions.{next_condition}
 use Rattle.run.specs.Offsets.{no_record}
 use Rattle.rules.specs.declared.condition.Condition.{Condition}
-use Rattle.rules.specs.declared.condition.Event.TheVariants.{Sent as Is-sent}
+use Rattle.rules.specs.declared.condition.Event.TheVariants.{Sent as IsSent}
 use Rattle.rules.specs.declared.condition.Onward.{Onward}
 use Rattle.rules.specs.declared.condition.Onward.TheVariants.{Link, Out}
 use Rattle.run.proofs.recording.Recording.send.Goals as goal
@@ -19,7 +19,7 @@ returns-then-picked c =
     let until : self.next + c.from.result ≡ self.next + get_or (delays_of self.plan) c.args.port 0 =
     ap (λ d. self.next + d) (c.from.ensures ∙ ap (λ l. get_or l c.args.port 0) c.delays.ensures) in
     let k : Condition = (get_or self.records c.args.picked.cell no_record).condition in
-    let next : Onward → Condition = λ o. next_condition k (Is-sent o) in
+    let next : Onward → Condition = λ o. next_condition k (IsSent o) in
     record {
       sent = record {
         same = record { plan = refl; pile = refl; next = refl; flying = refl };
@@ -45,7 +45,7 @@ returns-else-picked c =
     let s = c.args.picked.standing in
     let on : s.goes_on ≡ false = c.if-picked.false in
     let k : Condition = (get_or self.records c.args.picked.cell no_record).condition in
-    let next : Onward → Condition = λ o. next_condition k (Is-sent o) in
+    let next : Onward → Condition = λ o. next_condition k (IsSent o) in
     record {
       sent = record {
         same = record { plan = refl; pile = refl; next = refl; flying = refl };

@@ -1,7 +1,5 @@
-use Rattle.std.proofs.Common.{◌≡◌, length, set, sym, refl, ap, ◌∙◌, subst, arith, rules}
-use Rattle.plan.proofs.Facts.{few_ports_lem}
+use Rattle.std.proofs.Common.{length, refl, arith}
 use Rattle.table.specs.Elements.{elements}
-use Rattle.run.specs.Steps.{Turn}
 use Rattle.rules.proofs.Disciplines.{Laws}
 use Rattle.run.proofs.Kept.{kept_again}
 use Rattle.run.proofs.Networks.{route_few, cell_few}
@@ -40,7 +38,8 @@ pub invariant_of-send : goal.invariant_of-send
 invariant_of-send g c =
     let s = c.in-Some.ensures in
     let few = route_few c.args.self.now.plan c.in-Ok.cell s.0.cell in
-    let here = s.0.hop in (omega arith, tt)
+    let here = s.0.hop in
+    record { short = omega arith }
 
 pub send-requires : goal.send-requires
 send-requires g c =

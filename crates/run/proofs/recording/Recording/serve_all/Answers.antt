@@ -20,7 +20,7 @@ pub serve-requires : goal.serve-requires
 serve-requires g c =
     let a = ap (λ p. length (delays_of p)) c.loop-port.invariant.0.plan in
     let b = c.ports-port-end.ensures in
-    let t = c.loop-port_test.true in
+    let t = c.loop-port-test.true in
     omega arith
 
 pub loop-port-init : goal.loop-port-init

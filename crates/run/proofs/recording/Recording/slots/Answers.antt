@@ -7,11 +7,11 @@ loop-call-init g c = λ C. made_none _ _ _ _ c.args.self.now c.args.log.now c.ar
 
 pub loop-call-preserved : goal.loop-call-preserved
 loop-call-preserved g c = λ C.
-    made_more _ _ _ _ c.args.self.now c.args.log.now c.args.queue.now c.loop-call.-call c.loop-call.self c.loop-call.flights c.loop-call.log c.loop-call.queue (c.loop-call.invariant C)
+    made_more _ _ _ _ c.args.self.now c.args.log.now c.args.queue.now c.loop-call._call c.loop-call.self c.loop-call.flights c.loop-call.log c.loop-call.queue (c.loop-call.invariant C)
     c.slot.result c.slot.new.self c.slot.new.flights c.slot.new.log c.slot.new.queue c.slot.ensures.value c.slot.ensures.refused c.slot.ensures.performed c.slot.ensures.ends
 
 pub returns : goal.returns
 returns g c = λ C.
-    let all : c.loop-call.-call ≡ c.args.calls = omega arith in
+    let all : c.loop-call._call ≡ c.args.calls = omega arith in
     made_called _ _ _ _ c.args.self.now c.args.log.now c.args.queue.now c.args.calls c.loop-call.self c.loop-call.flights c.loop-call.log c.loop-call.queue
     (subst (λ n. Made g.D.Discipline.waiting g.D.Discipline.sound g.D.Discipline.arrives g.D.Discipline.picks c.args.self.now c.args.log.now c.args.queue.now n c.loop-call.self c.loop-call.flights c.loop-call.log c.loop-call.queue) all (c.loop-call.invariant C))

@@ -1,4 +1,4 @@
-use Rattle.std.proofs.Common.{◌≡◌, ℕ, ◌+◌, ◌<◌, ◌≤◌, ltb, List, length, get_or, sym, refl, ap, ◌∙◌, arith, rules}
+use Rattle.std.proofs.Common.{◌≡◌, ℕ, ◌+◌, ltb, List, length, get_or, ap, ◌∙◌, arith, rules}
 use Rattle.plan.specs.Cells.{Planned, planned, ports_of}
 use Rattle.plan.specs.declared.cell.Cell.{Cell}
 use Rattle.plan.specs.declared.cell.Route.{Route}

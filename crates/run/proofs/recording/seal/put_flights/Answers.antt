@@ -17,7 +17,7 @@ loop-number-preserved c =
       λ e l.
           launched_more cs c.loop-number.number (length c.loop-number.table.places.now) _ (elements c.loop-number.table) (elements c.put.new.self) c.put.result _
           read.0 (let long = c.loop-number.invariant.1 in omega arith) (c.loop-number.invariant.2 e l)
-          (c.from_slot.ensures ∙ c.entry.ensures ∙ ap (λ x. x.entry) (sym read.1)) refl c.put.ensures.value c.put.ensures.done,
+          (c.from-slot.ensures ∙ c.entry.ensures ∙ ap (λ x. x.entry) (sym read.1)) refl c.put.ensures.value c.put.ensures.done,
     )
 
 pub returns : goal.returns
