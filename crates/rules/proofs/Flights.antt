@@ -1,6 +1,6 @@
 -- The flights after a cell has landed, and after one more has left.
 use Rattle.std.proofs.Common.{◌≡◌, ℕ, ◌<◌, ◌≤◌, Bool, true, false, ◌||◌, eqb, leb, List, length, is_some, Some, None, sym, refl, ap, ◌∙◌, subst, inl, inr, arith}
-use Rattle.std.specs.List.{ContainsAt as Has}
+use Rattle.std.specs.List.{ContainsAt}
 use Rattle.std.proofs.ByRecursion.{All-weaker}
 use Rattle.std.proofs.lemmas.Bool.{cases_eq, leb-true, le-leb, eq-eqb, ne_eqb, or_right}
 use Rattle.refusal.proofs.Options.{none_some, some_one}
@@ -110,7 +110,7 @@ module _ (N : Network) (f g : ℕ → Condition) (fs : List Flight) (F : Flying 
           all = λ j s lj h. elim (cases_eq j c) [
             | inl e ↦ (
                 let same : s ≡ u = some_one s u h (ap (λ k. pending N k (g k)) e ∙ now) in
-                subst (Has (put_in flight_upto x fs)) (λ i. record { slot = sym same i; cell = sym e i }) (has_put_in flight_upto x fs))
+                subst (ContainsAt (put_in flight_upto x fs)) (λ i. record { slot = sym same i; cell = sym e i }) (has_put_in flight_upto x fs))
             | inr n ↦ has_put_in_old flight_upto x fs (record { slot = s; cell = j }) (F.all j s lj (back j s n h))
           ];
           size = (

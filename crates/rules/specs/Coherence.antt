@@ -1,6 +1,6 @@
 -- What the parts of a run have to do with each other.
 use Rattle.std.specs.Prelude.{◌≡◌, ℕ, ◌<◌, ◌≤◌, List, length, is_some, Some, None}
-use Rattle.std.specs.List.{ContainsAt as Has, AllByRecursion as All}
+use Rattle.std.specs.List.{ContainsAt, AllByRecursion}
 use Rattle.discipline.specs.Meaning.{Waiting, passing}
 use Rattle.network.specs.Networks.{Network, Hop}
 use Rattle.table.specs.Kinds.{flight_upto}
@@ -13,8 +13,8 @@ use Rattle.rules.specs.declared.condition.Condition.{Condition}
 -- number.
 pub record Flying (N : Network) (condition : ℕ → Condition) (fs : List Flight) : Type 0 where
   pub rising : Rising flight_upto fs
-  pub each : All (λ f. (f.cell < N.cells) × (pending N f.cell (condition f.cell) ≡ Some f.slot)) fs
-  pub all : (c s : ℕ) → c < N.cells → pending N c (condition c) ≡ Some s → Has fs (record { slot = s; cell = c })
+  pub each : AllByRecursion (λ f. (f.cell < N.cells) × (pending N f.cell (condition f.cell) ≡ Some f.slot)) fs
+  pub all : (c s : ℕ) → c < N.cells → pending N c (condition c) ≡ Some s → ContainsAt fs (record { slot = s; cell = c })
   pub size : length fs ≡ passing N.cells (λ c. is_some (pending N c (condition c)))
 
 -- no cell comes to wait before slot k

@@ -1,6 +1,6 @@
 -- Laws of what a table holds and of put_in, first_from and taken_from.
 use Rattle.std.proofs.Common.{◌≡◌, ℕ, zero, suc, ◌+◌, ◌<◌, ◌≤◌, Bool, true, false, cond, not, ◌⊎◌, List, [], ◌∷◌, ◌++◌, length, take, Some, None, filter, Option, sym, refl, ap, ◌∙◌, subst, inl, inr, arith, length-take}
-use Rattle.std.specs.List.{ContainsAt as Has, HoldsAt, AllByRecursion as All}
+use Rattle.std.specs.List.{ContainsAt, HoldsAt, AllByRecursion}
 use Rattle.std.specs.List.Sorted.{IsPermutation}
 use Rattle.std.proofs.ByRecursion.{All-weaker, all-has, has_shuffled, all_shuffled}
 use Rattle.std.proofs.lemmas.List.{take_all}
@@ -30,17 +30,17 @@ module _ {X : Type 0} (t : Table X) where
 
 -- an element of a list with one more at its front
 module _ {X : Type 0} (x : X) (xs : List X) (y : X) where
-  has_later : Has xs y → Has (x ∷ xs) y
+  has_later : ContainsAt xs y → ContainsAt (x ∷ xs) y
   has_later h = (suc h.0, omega (arith, h.1), h.2)
 
-  has_cases : Has (x ∷ xs) y → (y ≡ x) ⊎ Has xs y
+  has_cases : ContainsAt (x ∷ xs) y → (y ≡ x) ⊎ ContainsAt xs y
   has_cases h = at h.0 h.1 h.2
     where
-      at : (k : ℕ) → k < suc (length xs) → HoldsAt (λ z. z ≡ y) (x ∷ xs) k → (y ≡ x) ⊎ Has xs y
+      at : (k : ℕ) → k < suc (length xs) → HoldsAt (λ z. z ≡ y) (x ∷ xs) k → (y ≡ x) ⊎ ContainsAt xs y
       at zero l is = inl (sym (is x))
       at (suc k) l is = inr (k, omega arith, is)
 
-has_first : {X : Type 0} (x : X) (xs : List X) → Has (x ∷ xs) x
+has_first : {X : Type 0} (x : X) (xs : List X) → ContainsAt (x ∷ xs) x
 has_first x xs = (0, omega arith, λ d. refl)
 
 swapped : {X : Type 0} (x y : X) (xs : List X) → IsPermutation (x ∷ y ∷ xs) (y ∷ x ∷ xs)
@@ -59,16 +59,16 @@ module _ {X : Type 0} (le : X → X → Bool) (e : X) where
   pub length_put_in : (xs : List X) → length (put_in le e xs) ≡ length xs + 1
   length_put_in xs = omega (arith, length_permutation (e ∷ xs) (put_in le e xs) (shuffled_put_in xs))
 
-  pub has_put_in : (xs : List X) → Has (put_in le e xs) e
+  pub has_put_in : (xs : List X) → ContainsAt (put_in le e xs) e
   has_put_in xs = has_shuffled (e ∷ xs) (put_in le e xs) e (shuffled_put_in xs) (has_first e xs)
 
-  pub has_put_in_old : (xs : List X) (x : X) → Has xs x → Has (put_in le e xs) x
+  pub has_put_in_old : (xs : List X) (x : X) → ContainsAt xs x → ContainsAt (put_in le e xs) x
   has_put_in_old xs x h = has_shuffled (e ∷ xs) (put_in le e xs) x (shuffled_put_in xs) (has_later e xs x h)
 
-  pub has_put_in_cases : (xs : List X) (x : X) → Has (put_in le e xs) x → (x ≡ e) ⊎ Has xs x
+  pub has_put_in_cases : (xs : List X) (x : X) → ContainsAt (put_in le e xs) x → (x ≡ e) ⊎ ContainsAt xs x
   has_put_in_cases xs x h = has_cases e xs x (has_shuffled (put_in le e xs) (e ∷ xs) x (IsPermutation-sym (e ∷ xs) (put_in le e xs) (shuffled_put_in xs)) h)
 
-  pub all_put_in : (P : X → Type 0) (xs : List X) → P e → All P xs → All P (put_in le e xs)
+  pub all_put_in : (P : X → Type 0) (xs : List X) → P e → AllByRecursion P xs → AllByRecursion P (put_in le e xs)
   all_put_in P xs here all = all_shuffled P (e ∷ xs) (put_in le e xs) (shuffled_put_in xs) (here, all)
 
   -- an element that is put in before a mark is not told from that mark on
@@ -83,10 +83,10 @@ module _ {X : Type 0} (le : X → X → Bool) (e : X) where
 -- with e as the mark
 module _ {X : Type 0} (le : X → X → Bool) (e : X) where
   -- where none is told, all are before the mark, and none is taken
-  pub first_from_none : (xs : List X) → first_from le e xs ≡ None → All (λ y. le e y ≡ false) xs
+  pub first_from_none : (xs : List X) → first_from le e xs ≡ None → AllByRecursion (λ y. le e y ≡ false) xs
   first_from_none [] h = tt
   first_from_none (x ∷ xs) h =
-      (elim (le e x) as (λ b. le e x ≡ b → cond b (Some x) (first_from le e xs) ≡ None → All (λ y. le e y ≡ false) (x ∷ xs)) [
+      (elim (le e x) as (λ b. le e x ≡ b → cond b (Some x) (first_from le e xs) ≡ None → AllByRecursion (λ y. le e y ≡ false) (x ∷ xs)) [
         | true ↦ λ is h. let z : ◌≡◌ {A = ℕ} 0 1 = cc in absurd (omega arith)
         | false ↦ λ is h. (is, first_from_none xs h)
       ]) refl h
@@ -111,7 +111,7 @@ module _ {X : Type 0} (le : X → X → Bool) (e : X) where
   pub length_taken_from : (xs : List X) (y : X) → first_from le e xs ≡ Some y → length (taken_from le e xs) + 1 ≡ length xs
   length_taken_from xs y h = omega (arith, length_permutation (y ∷ taken_from le e xs) xs (shuffled_taken_from xs y h))
 
-  pub has_first_from : (xs : List X) (y : X) → first_from le e xs ≡ Some y → Has xs y
+  pub has_first_from : (xs : List X) (y : X) → first_from le e xs ≡ Some y → ContainsAt xs y
   has_first_from xs y h = has_shuffled (y ∷ taken_from le e xs) xs y (shuffled_taken_from xs y h) (has_first y (taken_from le e xs))
 
   pub first_from_passes : (xs : List X) (y : X) → first_from le e xs ≡ Some y → le e y ≡ true
@@ -122,25 +122,25 @@ module _ {X : Type 0} (le : X → X → Bool) (e : X) where
         | false ↦ λ is h. first_from_passes xs y h
       ]) refl h
 
-  pub has_taken_from : (xs : List X) (x : X) → Has (taken_from le e xs) x → Has xs x
+  pub has_taken_from : (xs : List X) (x : X) → ContainsAt (taken_from le e xs) x → ContainsAt xs x
   has_taken_from xs x k =
-      (elim (first_from le e xs) as (λ o. first_from le e xs ≡ o → Has xs x) [
-        | None ↦ λ h. subst (λ l. Has l x) (taken_from_none xs h) k
+      (elim (first_from le e xs) as (λ o. first_from le e xs ≡ o → ContainsAt xs x) [
+        | None ↦ λ h. subst (λ l. ContainsAt l x) (taken_from_none xs h) k
         | Some y ↦ λ h. has_shuffled (y ∷ taken_from le e xs) xs x (shuffled_taken_from xs y h) (has_later y (taken_from le e xs) x k)
       ]) refl
 
-  pub has_taken_from_cases : (xs : List X) (y x : X) → first_from le e xs ≡ Some y → Has xs x → (x ≡ y) ⊎ Has (taken_from le e xs) x
+  pub has_taken_from_cases : (xs : List X) (y x : X) → first_from le e xs ≡ Some y → ContainsAt xs x → (x ≡ y) ⊎ ContainsAt (taken_from le e xs) x
   has_taken_from_cases xs y x h k =
       has_cases y (taken_from le e xs) x (has_shuffled xs (y ∷ taken_from le e xs) x (IsPermutation-sym (y ∷ taken_from le e xs) xs (shuffled_taken_from xs y h)) k)
 
-  pub all_taken_from : (P : X → Type 0) (xs : List X) → All P xs → All P (taken_from le e xs)
+  pub all_taken_from : (P : X → Type 0) (xs : List X) → AllByRecursion P xs → AllByRecursion P (taken_from le e xs)
   all_taken_from P [] all = tt
   all_taken_from P (x ∷ xs) all =
-      elim (le e x) as (λ b. All P (cond b xs (x ∷ taken_from le e xs))) [ true ↦ all.1 | false ↦ (all.0, all_taken_from P xs all.1) ]
+      elim (le e x) as (λ b. AllByRecursion P (cond b xs (x ∷ taken_from le e xs))) [ true ↦ all.1 | false ↦ (all.0, all_taken_from P xs all.1) ]
 
 -- e is put in where all are before the mark m: then e is told and taken
 module _ {X : Type 0} (le : X → X → Bool) (e m : X) (here : le m e ≡ true) where
-  pub first_from_put_in_none : (xs : List X) → All (λ y. le m y ≡ false) xs → first_from le m (put_in le e xs) ≡ Some e
+  pub first_from_put_in_none : (xs : List X) → AllByRecursion (λ y. le m y ≡ false) xs → first_from le m (put_in le e xs) ≡ Some e
   first_from_put_in_none [] all = cond-true (le m e) (Some e) None here
   first_from_put_in_none (x ∷ xs) all =
       elim (le x e) as (λ b. first_from le m (cond b (x ∷ put_in le e xs) (e ∷ x ∷ xs)) ≡ Some e) [
@@ -148,7 +148,7 @@ module _ {X : Type 0} (le : X → X → Bool) (e m : X) (here : le m e ≡ true)
         | false ↦ cond-true (le m e) (Some e) (first_from le m (x ∷ xs)) here
       ]
 
-  pub taken_from_put_in_none : (xs : List X) → All (λ y. le m y ≡ false) xs → taken_from le m (put_in le e xs) ≡ xs
+  pub taken_from_put_in_none : (xs : List X) → AllByRecursion (λ y. le m y ≡ false) xs → taken_from le m (put_in le e xs) ≡ xs
   taken_from_put_in_none [] all = cond-true (le m e) [] (e ∷ []) here
   taken_from_put_in_none (x ∷ xs) all =
       elim (le x e) as (λ b. taken_from le m (cond b (x ∷ put_in le e xs) (e ∷ x ∷ xs)) ≡ x ∷ xs) [
@@ -157,11 +157,11 @@ module _ {X : Type 0} (le : X → X → Bool) (e m : X) (here : le m e ≡ true)
       ]
 
 -- filters that keep nothing and all
-none_kept : {X : Type 0} (p : X → Bool) (xs : List X) → All (λ y. p y ≡ false) xs → filter p xs ≡ []
+none_kept : {X : Type 0} (p : X → Bool) (xs : List X) → AllByRecursion (λ y. p y ≡ false) xs → filter p xs ≡ []
 none_kept p [] all = refl
 none_kept p (x ∷ xs) all = cond-false (p x) (x ∷ filter p xs) (filter p xs) all.0 ∙ none_kept p xs all.1
 
-all_kept : {X : Type 0} (p : X → Bool) (xs : List X) → All (λ y. p y ≡ true) xs → filter p xs ≡ xs
+all_kept : {X : Type 0} (p : X → Bool) (xs : List X) → AllByRecursion (λ y. p y ≡ true) xs → filter p xs ≡ xs
 all_kept p [] all = refl
 all_kept p (x ∷ xs) all = cond-true (p x) (x ∷ filter p xs) (filter p xs) all.0 ∙ ap (λ l. x ∷ l) (all_kept p xs all.1)
 
@@ -216,7 +216,7 @@ module _ {X : Type 0} (le : X → X → Bool) (o : Lawful le) where
 
     -- e is put in where x is told from the mark m on: then x stays the one told if it is not after e, and else e is
     module _ (m x : X) (here : le m e ≡ true) where
-      later : (y : X) (xs : List X) → All (λ z. le y z ≡ true) xs → first_from le m xs ≡ Some x → le y e ≡ false → le x e ≡ false
+      later : (y : X) (xs : List X) → AllByRecursion (λ z. le y z ≡ true) xs → first_from le m xs ≡ Some x → le y e ≡ false → le x e ≡ false
       later y xs all told h = after e y x h (all-has (λ z. le y z ≡ true) xs x all (has_first_from le m xs x told))
 
       pub first_from_put_in_some : (xs : List X) → Sorted le xs → first_from le m xs ≡ Some x → first_from le m (put_in le e xs) ≡ Some (cond (le x e) x e)

@@ -1,6 +1,6 @@
 -- Lists in an order that is given by a test: le x y says that x is not after y.
 use Rattle.std.specs.Prelude.{◌≡◌, ℕ, suc, Bool, true, false, cond, not, List, [], ◌∷◌, ◌++◌, Some, None, filter, Option}
-use Rattle.std.specs.List.{ContainsAt as Has, AllByRecursion as All}
+use Rattle.std.specs.List.{ContainsAt, AllByRecursion}
 
 -- of two elements one is not after the other, and not-after is transitive
 pub record Lawful {X : Type 0} (le : X → X → Bool) : Type 0 where
@@ -10,12 +10,12 @@ pub record Lawful {X : Type 0} (le : X → X → Bool) : Type 0 where
 -- each element is not after any that follows it
 abbrev pub Sorted : {X : Type 0} → (X → X → Bool) → List X → Type 0
 Sorted le [] = Unit {0}
-Sorted le (x ∷ xs) = All (λ y. le x y ≡ true) xs × Sorted le xs
+Sorted le (x ∷ xs) = AllByRecursion (λ y. le x y ≡ true) xs × Sorted le xs
 
 -- each element is before all that follow it
 abbrev pub Rising : {X : Type 0} → (X → X → Bool) → List X → Type 0
 Rising le [] = Unit {0}
-Rising le (x ∷ xs) = All (λ y. le y x ≡ false) xs × Rising le xs
+Rising le (x ∷ xs) = AllByRecursion (λ y. le y x ≡ false) xs × Rising le xs
 
 -- how many elements at the front pass a test
 abbrev pub front : {X : Type 0} → (X → Bool) → List X → ℕ
@@ -43,5 +43,5 @@ taken_from le m (x ∷ xs) = cond (le m x) xs (x ∷ taken_from le m xs)
 
 -- the answer is the least of the elements that are not before the mark, or that there is none
 abbrev pub LeastFrom : {X : Type 0} → (X → X → Bool) → X → List X → Option X → Type 0
-LeastFrom le m xs None = All (λ y. le m y ≡ false) xs
-LeastFrom le m xs (Some x) = Has xs x × (le m x ≡ true) × All (λ y. le m y ≡ true → le x y ≡ true) xs
+LeastFrom le m xs None = AllByRecursion (λ y. le m y ≡ false) xs
+LeastFrom le m xs (Some x) = ContainsAt xs x × (le m x ≡ true) × AllByRecursion (λ y. le m y ≡ true → le x y ≡ true) xs

@@ -1,6 +1,6 @@
 -- Least slack first: what a queue of due cells and the stays of its cells have to do with each other.
 use Rattle.std.specs.Prelude.{◌≡◌, ℕ, ◌-◌, ◌^◌, ◌<◌, ◌≤◌, true, List, length, ℤ, negsuc, is_some, Some, None, Option, int_le, slice_index, slice_index_or}
-use Rattle.std.specs.List.{ContainsAt as Has, AllByRecursion as All}
+use Rattle.std.specs.List.{ContainsAt, AllByRecursion}
 use Rattle.discipline.specs.Meaning.{Waiting, passing, count_at}
 use Rattle.discipline.specs.declared.stay.Stay.{Stay}
 use Rattle.table.specs.Kinds.{due_upto}
@@ -42,7 +42,7 @@ pub record Sound (stays : List (Option Stay)) (counts : List ℕ) (xs : List Due
   pub counts_long : length counts ≡ 32
   pub room_for_all : 256 ≤ room
   pub rising : Rising due_upto xs
-  pub staying : All (Stays stays) xs
-  pub queued : (c : ℕ) (s : Stay) → waiting_by stays c ≡ Some s → (s.port ≤ 31) × (int_le earliest s.due ≡ true) × Has xs (due_cell c s)
+  pub staying : AllByRecursion (Stays stays) xs
+  pub queued : (c : ℕ) (s : Stay) → waiting_by stays c ≡ Some s → (s.port ≤ 31) × (int_le earliest s.due ≡ true) × ContainsAt xs (due_cell c s)
   pub size : length xs ≡ passing 256 (λ c. is_some (waiting_by stays c))
   pub counted : (p : ℕ) → p < 32 → slice_index counts p ≡ count_at (waiting_by stays) p

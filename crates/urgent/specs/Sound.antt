@@ -2,7 +2,7 @@
 use Rattle.std.specs.Prelude.{◌≡◌, ℕ, ◌+◌, ◌-◌, ◌^◌, ◌<◌, ◌≤◌, Bool, true, false, cond, ◌⊎◌, List, [], length, replicate, ℤ, pos, negsuc, ◌<ℤ◌, is_some, Some, None, Option, FitsSigned, ◌≢◌, int_le, slice_index, slice_set, refl}
 use Rattle.std.proofs.Common.{sym, ap, subst, ◌∙◌, inl, inr, arith, length-set}
 use Rattle.std.specs.Int.{w64}
-use Rattle.std.specs.List.{ContainsAt as Has, AllByRecursion as All}
+use Rattle.std.specs.List.{ContainsAt, AllByRecursion}
 use Rattle.std.proofs.ByRecursion.{All-weaker, all-has}
 use Rattle.std.proofs.lemmas.List.{get_or-set_same, get_or-set_other, get_or_past, get_or-replicate}
 use Rattle.std.proofs.lemmas.Bool.{cases_eq, cases_lt, eq-eqb, ne_eqb, le-leb, true≢false}
@@ -99,8 +99,8 @@ module _ (st : List (Option Stay)) (ct : List ℕ) (xs : List DueCell) (room : �
                       (let same : t ≡ s = some_one t s (ap (waiting_by (slice_set st c (Some s))) (sym q) ∙ h) (set_here c l (Some s)) in (
                         subst (λ u. u.port ≤ 31) (sym same) port,
                         ap (λ u. int_le earliest u.due) same ∙ due,
-                        subst (λ x. Has (put_in due_upto (due_cell c s) xs) (due_cell x t)) (sym q)
-                            (subst (λ u. Has (put_in due_upto (due_cell c s) xs) (due_cell c u)) (sym same) (has_put_in due_upto (due_cell c s) xs)),
+                        subst (λ x. ContainsAt (put_in due_upto (due_cell c s) xs) (due_cell x t)) (sym q)
+                            (subst (λ u. ContainsAt (put_in due_upto (due_cell c s) xs) (due_cell c u)) (sym same) (has_put_in due_upto (due_cell c s) xs)),
                       ))
                   | inr q ↦
                       (let old = ok.queued k t (sym (set_other c l (Some s) k q) ∙ h) in
@@ -137,7 +137,7 @@ module _ (st : List (Option Stay)) (ct : List ℕ) (xs : List DueCell) (room : �
             h.1)
 
     module _ (m : DueCell) (told : first_from due_upto m xs ≡ Some (due_cell c s)) where
-      left : All (λ y. Stays st y × (due_upto y (due_cell c s) ≡ true → due_upto (due_cell c s) y ≢ true)) (taken_from due_upto m xs)
+      left : AllByRecursion (λ y. Stays st y × (due_upto y (due_cell c s) ≡ true → due_upto (due_cell c s) y ≢ true)) (taken_from due_upto m xs)
       left = all_both (Stays st) (λ y. due_upto y (due_cell c s) ≡ true → due_upto (due_cell c s) y ≢ true) (taken_from due_upto m xs)
           (all_taken_from due_upto m (Stays st) xs ok.staying) (taken_once due_upto due_lawful m (due_cell c s) xs ok.rising told)
 
@@ -259,7 +259,7 @@ sound_none room xs none enough =
       counts_long = refl;
       room_for_all = enough;
       rising = subst (Rising due_upto) (sym none) tt;
-      staying = subst (All (Stays (replicate 256 None))) (sym none) tt;
+      staying = subst (AllByRecursion (Stays (replicate 256 None))) (sym none) tt;
       queued = λ c s h. absurd (none_some s (none_staying c) h);
       size = ap length none ∙ sym (nothing_passes 256 (λ c. is_some (waiting_by (replicate 256 None) c)) (λ c. ap is_some (none_staying c)));
       counted = λ p l. get_or-replicate 32 p 0 0 l ∙ sym (empty_count (waiting_by (replicate 256 None)) p none_staying);
