@@ -4,7 +4,7 @@ ghost use Rattle.refusal.specs.Tests.{tested};
 ghost use Rattle.discipline.specs.Meaning.{count_at};
 ghost use Rattle.plan.specs.Cells.{hops_in};
 ghost use Rattle.plan.specs.Plans.{cells_of, delays_of};
-ghost use Rattle.rules.specs.declared.hop.HopRecord.{HopRecord as RecordOfHop};
+ghost use Rattle.rules.specs.declared.hop.HopRecord.{HopRecord};
 ghost use Rattle.rules.specs.Coherence.{Flying};
 ghost use Rattle.rules.specs.Moments.{pending};
 ghost use Rattle.run.specs.Recordings.{network_of, flows, moment, Kept};
@@ -57,7 +57,7 @@ impl Recording {
     // A cell enters or lands: it waits from now on, and the queue discipline is told.
     fn enter<D: Discipline>(&mut self, cell: usize, queue: &mut D)
         ensures same { Kept self.old self.new }
-        ensures arrives { (log : List RecordOfHop) → InSlot D.Discipline.waiting D.Discipline.sound self.old log queue.old → cell < length (cells_of self.old.plan) → pending (network_of self.old) cell ((moment self.old log queue.old).condition cell) ≡ Some self.old.next → Arrives (network_of self.old) (flows self.old) self.old.next D.Discipline.waiting D.Discipline.arrives D.Discipline.picks cell (moment self.old log queue.old) (moment self.new log queue.new) }
+        ensures arrives { (log : List HopRecord) → InSlot D.Discipline.waiting D.Discipline.sound self.old log queue.old → cell < length (cells_of self.old.plan) → pending (network_of self.old) cell ((moment self.old log queue.old).condition cell) ≡ Some self.old.next → Arrives (network_of self.old) (flows self.old) self.old.next D.Discipline.waiting D.Discipline.arrives D.Discipline.picks cell (moment self.old log queue.old) (moment self.new log queue.new) }
     {
         if cell >= self.plan.cells() {
             return;
