@@ -1,7 +1,7 @@
 -- How many numbers pass a test, and how many cells wait at a port.
 use Rattle.std.proofs.Common.{◌≡◌, ℕ, zero, suc, ◌+◌, ◌<◌, ◌≤◌, Bool, true, false, cond, Some, None, Option, sym, refl, ap, ◌∙◌, inl, inr, arith}
 use Rattle.std.proofs.lemmas.Bool.{cases_eq, cases_Bool, eq-eqb, ne_eqb, false≢true}
-use Rattle.discipline.specs.Meaning.{Waiting, stays_at, waits_at_lem, At, passing, count_at, Limits, Same, with_cell, without_cell, Empty}
+use Rattle.discipline.specs.Meaning.{Waiting, stays_at, waits_at, At, passing, count_at, Limits, Same, with_cell, without_cell, Empty}
 use Rattle.discipline.specs.declared.stay.Stay.{Stay}
 
 -- one number more
@@ -84,7 +84,7 @@ passing_more (suc n) f g c l a b h =
 
 -- the same cells wait
 pub count_same : (v w : Waiting) (p : ℕ) → Same v w → count_at v p ≡ count_at w p
-count_same v w p h = passing_same 256 (waits_at_lem v p) (waits_at_lem w p) (λ k l. ap (stays_at p) (h k))
+count_same v w p h = passing_same 256 (waits_at v p) (waits_at w p) (λ k l. ap (stays_at p) (h k))
 
 -- a cell more at its port, and none more elsewhere
 with_other : (w : Waiting) (c : ℕ) (s : Stay) (k : ℕ) → (k ≡ c → ⊥) → with_cell w c s k ≡ w k
@@ -95,14 +95,14 @@ with_here w c s = ap (λ b. cond b (Some s) (w c)) (eq-eqb c c refl)
 
 pub count_with : (w : Waiting) (c : ℕ) (s : Stay) (p : ℕ) → c < 256 → w c ≡ None → s.port ≡ p → count_at (with_cell w c s) p ≡ count_at w p + 1
 count_with w c s p l a e =
-    passing_more 256 (waits_at_lem w p) (waits_at_lem (with_cell w c s) p) c l (ap (stays_at p) a)
+    passing_more 256 (waits_at w p) (waits_at (with_cell w c s) p) c l (ap (stays_at p) a)
     (ap (stays_at p) (with_here w c s) ∙ eq-eqb s.port p e) (λ k n. ap (stays_at p) (with_other w c s k n))
 
 pub count_with_other : (w : Waiting) (c : ℕ) (s : Stay) (p : ℕ) → w c ≡ None → (s.port ≡ p → ⊥) → count_at (with_cell w c s) p ≡ count_at w p
 count_with_other w c s p a n =
-    passing_same 256 (waits_at_lem (with_cell w c s) p) (waits_at_lem w p)
+    passing_same 256 (waits_at (with_cell w c s) p) (waits_at w p)
     (λ k l. elim (cases_eq k c) [
-      | inl q ↦ ap (waits_at_lem (with_cell w c s) p) q ∙ ap (stays_at p) (with_here w c s) ∙ ne_eqb s.port p n ∙ sym (ap (stays_at p) (ap w q ∙ a))
+      | inl q ↦ ap (waits_at (with_cell w c s) p) q ∙ ap (stays_at p) (with_here w c s) ∙ ne_eqb s.port p n ∙ sym (ap (stays_at p) (ap w q ∙ a))
       | inr q ↦ ap (stays_at p) (with_other w c s k q)
     ])
 
@@ -115,14 +115,14 @@ without_here w c = ap (λ b. cond b None (w c)) (eq-eqb c c refl)
 
 pub count_without : (w : Waiting) (c p : ℕ) → c < 256 → At w p c → count_at w p ≡ count_at (without_cell w c) p + 1
 count_without w c p l a =
-    passing_more 256 (waits_at_lem (without_cell w c) p) (waits_at_lem w p) c l (ap (stays_at p) (without_here w c)) a
+    passing_more 256 (waits_at (without_cell w c) p) (waits_at w p) c l (ap (stays_at p) (without_here w c)) a
     (λ k n. sym (ap (stays_at p) (without_other w c k n)))
 
-pub count_without_other : (w : Waiting) (c p : ℕ) → waits_at_lem w p c ≡ false → count_at (without_cell w c) p ≡ count_at w p
+pub count_without_other : (w : Waiting) (c p : ℕ) → waits_at w p c ≡ false → count_at (without_cell w c) p ≡ count_at w p
 count_without_other w c p a =
-    passing_same 256 (waits_at_lem (without_cell w c) p) (waits_at_lem w p)
+    passing_same 256 (waits_at (without_cell w c) p) (waits_at w p)
     (λ k l. elim (cases_eq k c) [
-      | inl q ↦ ap (waits_at_lem (without_cell w c) p) q ∙ ap (stays_at p) (without_here w c) ∙ sym (ap (waits_at_lem w p) q ∙ a)
+      | inl q ↦ ap (waits_at (without_cell w c) p) q ∙ ap (stays_at p) (without_here w c) ∙ sym (ap (waits_at w p) q ∙ a)
       | inr q ↦ ap (stays_at p) (without_other w c k q)
     ])
 
@@ -134,12 +134,12 @@ empty_ports w limits h c = go (w c) refl
     go None e = refl
     go (Some s) e =
         let b = limits c s e in
-        let yes-at : waits_at_lem w s.port c ≡ true = ap (stays_at s.port) e ∙ eq-eqb s.port s.port refl in
-        absurd (false≢true (sym (passing_none 256 (waits_at_lem w s.port) (h s.port (let x = b.1 in omega arith)) c (let x = b.0 in omega arith)) ∙ yes-at))
+        let yes-at : waits_at w s.port c ≡ true = ap (stays_at s.port) e ∙ eq-eqb s.port s.port refl in
+        absurd (false≢true (sym (passing_none 256 (waits_at w s.port) (h s.port (let x = b.1 in omega arith)) c (let x = b.0 in omega arith)) ∙ yes-at))
 
 pub empty_count : (w : Waiting) (p : ℕ) → Empty w → count_at w p ≡ 0
 empty_count w p h =
     elim (cases_eq (count_at w p) 0) [
       | inl z ↦ z
-      | inr z ↦ (let r = passing_find 256 (waits_at_lem w p) (omega arith) in absurd (false≢true (ap (stays_at p) (sym (h r.0)) ∙ r.2)))
+      | inr z ↦ (let r = passing_find 256 (waits_at w p) (omega arith) in absurd (false≢true (ap (stays_at p) (sym (h r.0)) ∙ r.2)))
     ]

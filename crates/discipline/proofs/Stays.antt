@@ -4,7 +4,7 @@ use Rattle.std.proofs.lemmas.Bool.{eq-eqb, ne_eqb, le-ltb, eqb-true, false≢tru
 use Rattle.refusal.specs.Tests.{when, or_else}
 use Rattle.refusal.specs.declared.Refusal.TheVariants.{OutOfRange, NoneWaits}
 use Rattle.discipline.specs.Calls.{pick_test}
-use Rattle.discipline.specs.Meaning.{Waiting, At, Limits, stays_at, waits_at_lem, count_at}
+use Rattle.discipline.specs.Meaning.{Waiting, At, Limits, stays_at, waits_at, count_at}
 use Rattle.discipline.specs.declared.stay.Stay.{Stay}
 use Rattle.discipline.proofs.Counting.{passing_some}
 
@@ -26,6 +26,6 @@ pick_passes w limits p c a =
     let q = s.2 in
     let few : c ≤ 255 = b.0 in
     let low : s.0.port ≤ 31 = b.1 in
-    let some = passing_some 256 (waits_at_lem w p) c (omega arith) a in
+    let some = passing_some 256 (waits_at w p) c (omega arith) a in
     ap (λ t. or_else (when t OutOfRange) (when (eqb (count_at w p) 0) NoneWaits)) (le-ltb 31 p (omega arith))
     ∙ ap (λ t. when t NoneWaits) (ne_eqb (count_at w p) 0 (λ e. omega arith))

@@ -12,12 +12,12 @@ stays_at p None = false
 stays_at p (Some s) = s.port == p
 
 -- whether cell c waits at port p
-abbrev pub waits_at_lem : Waiting → ℕ → ℕ → Bool
-waits_at_lem w p c = stays_at p (w c)
+abbrev pub waits_at : Waiting → ℕ → ℕ → Bool
+waits_at w p c = stays_at p (w c)
 
 -- cell c waits at port p
 abbrev pub At : Waiting → ℕ → ℕ → Type 0
-At w p c = waits_at_lem w p c ≡ true
+At w p c = waits_at w p c ≡ true
 
 -- how many of the numbers below n pass
 unfoldable pub passing : ℕ → (ℕ → Bool) → ℕ
@@ -26,7 +26,7 @@ passing (suc n) f = cond (f n) (suc (passing n f)) (passing n f)
 
 -- how many cells wait at port p
 abbrev pub count_at : Waiting → ℕ → ℕ
-count_at w p = passing 256 (waits_at_lem w p)
+count_at w p = passing 256 (waits_at w p)
 
 -- the port of a stay
 abbrev pub stay_port : Option Stay → Option ℕ

@@ -1,7 +1,7 @@
 -- Cells that have waited long, over one discipline.
 use Rattle.std.specs.Prelude.{◌≡◌, ℕ, zero, suc, ◌-◌, ◌<◌, ◌≤◌, Bool, true, cond, ◌&&◌, ◌⊎◌, List, length, Some, None, Option, nat_le, nat_lt, slice_index}
 use Rattle.discipline.specs.declared.stay.Stay.{Stay}
-use Rattle.discipline.specs.Meaning.{Waiting, waits_at_lem}
+use Rattle.discipline.specs.Meaning.{Waiting, waits_at}
 
 -- the arrival slot of a stay; 0 where there is none
 abbrev pub slot_of : Option Stay → ℕ
@@ -10,7 +10,7 @@ slot_of (Some s) = s.slot
 
 -- whether cell c waits at port p, in slot t for a slots or more; a slot before the arrival counts as no wait
 abbrev pub old : Waiting → ℕ → ℕ → ℕ → ℕ → Bool
-old w a p t c = waits_at_lem w p c && nat_le a (t - slot_of (w c))
+old w a p t c = waits_at w p c && nat_le a (t - slot_of (w c))
 
 -- cell c is old at port p
 abbrev pub Old : Waiting → ℕ → ℕ → ℕ → ℕ → Type 0

@@ -4,7 +4,7 @@ use Rattle.std.proofs.Common.{sym, ap, ◌∙◌, subst, inl, inr}
 use Rattle.std.proofs.lemmas.Bool.{cases_Bool, cases_eq, eq-eqb, ne_eqb}
 use Rattle.discipline.specs.declared.stay.Stay.{Stay}
 use Rattle.discipline.specs.Calls.{arrive_test, pick_test, withdraw_test}
-use Rattle.discipline.specs.Meaning.{Waiting, waits_at_lem, count_at, Same, Lawful, with_cell, without_cell}
+use Rattle.discipline.specs.Meaning.{Waiting, waits_at, count_at, Same, Lawful, with_cell, without_cell}
 use Rattle.layers.specs.Halves.{joined, Apart, half_choice, Either, BothSound}
 use Rattle.layers.specs.Joining.{arrive_free, arrive_alike, only_first, only_second, not_first, not_second, with_first, with_second, without_first, without_second, pick_first, pick_second, withdraw_first, withdraw_second}
 use Rattle.layers.specs.Limited.{chosen_at, withdrawn_at}
@@ -47,7 +47,7 @@ module _ {A B : Type 0} (v : A → Waiting) (w : B → Waiting) (P : A → Type 
             let k = either_yes (count_at (v a) p == 0) (S × (x ≡ a)) (F × (y ≡ b)) none z in
             let passes = sym (pick_second (v a) (w b) p i.2 e) ∙ h in
             let r = second passes k.0 in
-            let at = ap (waits_at_lem (w b) p) r.1 ∙ chosen_at (w b) p n passes lawful_second in
+            let at = ap (waits_at (w b) p) r.1 ∙ chosen_at (w b) p n passes lawful_second in
             let o = second_changed R k.1 i.0 r.0 (without_second (v a) (w b) (w y) c i.2 (not_first (v a) (w b) p c i.2 at) r.2) in
             (o.0, r.1 ∙ sym (ap (λ q. cond q n m) none), o.1))
         | inr e ↦
@@ -55,22 +55,22 @@ module _ {A B : Type 0} (v : A → Waiting) (w : B → Waiting) (P : A → Type 
             let k = either_no (count_at (v a) p == 0) (S × (x ≡ a)) (F × (y ≡ b)) some z in
             let passes = sym (pick_first (v a) (w b) p i.2 e) ∙ h in
             let r = first passes k.0 in
-            let at = ap (waits_at_lem (v a) p) r.1 ∙ chosen_at (v a) p m passes lawful_first in
+            let at = ap (waits_at (v a) p) r.1 ∙ chosen_at (v a) p m passes lawful_first in
             let o = first_changed R k.1 r.0 i.1 (without_first (v a) (w b) (v x) c i.2 (not_second (v a) (w b) p c i.2 at) r.2) in
             (o.0, r.1 ∙ sym (ap (λ q. cond q n m) some), o.1))
       ]
 
   -- a cell left the half in which it waited
-  pub withdrawn_joined : (p c : ℕ) (F S : Type 0) → BothSound (P a) (Q b) (v a) (w b) → withdraw_test (joined (v a) (w b)) p c ≡ None → Either (waits_at_lem (v a) p c) (F × (y ≡ b)) (S × (x ≡ a)) → (withdraw_test (v a) p c ≡ None → F → P x × Same (v x) (without_cell (v a) c)) → (withdraw_test (w b) p c ≡ None → S → Q y × Same (w y) (without_cell (w b) c)) → BothSound (P x) (Q y) (v x) (w y) × Same (joined (v x) (w y)) (without_cell (joined (v a) (w b)) c)
+  pub withdrawn_joined : (p c : ℕ) (F S : Type 0) → BothSound (P a) (Q b) (v a) (w b) → withdraw_test (joined (v a) (w b)) p c ≡ None → Either (waits_at (v a) p c) (F × (y ≡ b)) (S × (x ≡ a)) → (withdraw_test (v a) p c ≡ None → F → P x × Same (v x) (without_cell (v a) c)) → (withdraw_test (w b) p c ≡ None → S → Q y × Same (w y) (without_cell (w b) c)) → BothSound (P x) (Q y) (v x) (w y) × Same (joined (v x) (w y)) (without_cell (joined (v a) (w b)) c)
   withdrawn_joined p c F S i h z first second =
       let R : Waiting → Type 0 = λ k. Same k (without_cell (joined (v a) (w b)) c) in
-      elim (cases_Bool (waits_at_lem (v a) p c)) [
+      elim (cases_Bool (waits_at (v a) p c)) [
         | inl e ↦
-            (let k = either_yes (waits_at_lem (v a) p c) (F × (y ≡ b)) (S × (x ≡ a)) e z in
+            (let k = either_yes (waits_at (v a) p c) (F × (y ≡ b)) (S × (x ≡ a)) e z in
             let r = first (sym (withdraw_first (v a) (w b) p c i.2 e) ∙ h) k.0 in
             first_changed R k.1 r.0 i.1 (without_first (v a) (w b) (v x) c i.2 (not_second (v a) (w b) p c i.2 e) r.1))
         | inr e ↦
-            (let k = either_no (waits_at_lem (v a) p c) (F × (y ≡ b)) (S × (x ≡ a)) e z in
+            (let k = either_no (waits_at (v a) p c) (F × (y ≡ b)) (S × (x ≡ a)) e z in
             let passes = sym (withdraw_second (v a) (w b) p c i.2 e) ∙ h in
             let r = second passes k.0 in
             second_changed R k.1 i.0 r.0 (without_second (v a) (w b) (w y) c i.2 (not_first (v a) (w b) p c i.2 (withdrawn_at (w b) p c passes)) r.1))

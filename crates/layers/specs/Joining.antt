@@ -6,7 +6,7 @@ use Rattle.refusal.specs.declared.Refusal.TheVariants.{OutOfRange, AlreadyWaits,
 use Rattle.refusal.proofs.Ordered.{or_else_passes, when_passes}
 use Rattle.discipline.specs.declared.stay.Stay.{Stay}
 use Rattle.discipline.specs.Calls.{arrive_test, pick_test, withdraw_test}
-use Rattle.discipline.specs.Meaning.{Waiting, stays_at, waits_at_lem, At, passing, count_at, Limits, Same, Lawful, with_cell, without_cell}
+use Rattle.discipline.specs.Meaning.{Waiting, stays_at, waits_at, At, passing, count_at, Limits, Same, Lawful, with_cell, without_cell}
 use Rattle.discipline.proofs.Counting.{passing_yes, passing_no, passing_some, passing_find}
 use Rattle.layers.specs.Halves.{stay_of, joined, Apart, half_choice}
 use Rattle.layers.specs.Limited.{at_limit}
@@ -60,7 +60,7 @@ pub at_second : (v w : Waiting) (p c : ℕ) → Apart v w → At w p c → At (j
 at_second v w p c a h = ap (stays_at p) (only_second v w c (not_first v w p c a h)) ∙ h
 
 -- a cell that does not wait at a port in the first half waits there as in the second
-pub elsewhere : (v w : Waiting) (p c : ℕ) → Apart v w → waits_at_lem v p c ≡ false → waits_at_lem (joined v w) p c ≡ waits_at_lem w p c
+pub elsewhere : (v w : Waiting) (p c : ℕ) → Apart v w → waits_at v p c ≡ false → waits_at (joined v w) p c ≡ waits_at w p c
 elsewhere v w p c a h =
     elim (a c) [
       | inl e ↦ ap (stays_at p) (only_second v w c e)
@@ -70,7 +70,7 @@ elsewhere v w p c a h =
 -- the cells of a port are those of both halves
 pub count_joined : (v w : Waiting) (p : ℕ) → Apart v w → count_at (joined v w) p ≡ count_at v p + count_at w p
 count_joined v w p a =
-    passing_either 256 (waits_at_lem v p) (waits_at_lem w p) (waits_at_lem (joined v w) p)
+    passing_either 256 (waits_at v p) (waits_at w p) (waits_at (joined v w) p)
     (λ k. elim (a k) [
       | inl e ↦ inl (ap (stays_at p) e, ap (stays_at p) (only_second v w k e))
       | inr e ↦ inr (ap (stays_at p) e, ap (stays_at p) (only_first v w k e))
@@ -88,13 +88,13 @@ pub lawful_joined : (v w : Waiting) (p x y : ℕ) → Limits v → Limits w → 
 lawful_joined v w p x y l m a f s c h =
     elim (cases_eq (count_at v p) 0) [
       | inl z ↦
-          (let some = passing_some 256 (waits_at_lem (joined v w) p) c (at_limit (joined v w) (limits_joined v w l m) p c h) h in
+          (let some = passing_some 256 (waits_at (joined v w) p) c (at_limit (joined v w) (limits_joined v w l m) p c h) h in
           let sum = count_joined v w p a in
-          let k = passing_find 256 (waits_at_lem w p) (omega arith) in
-          ap (waits_at_lem (joined v w) p) (ap (λ b. cond b y x) (eq-eqb (count_at v p) 0 z)) ∙ at_second v w p y a (s k.0 k.2))
+          let k = passing_find 256 (waits_at w p) (omega arith) in
+          ap (waits_at (joined v w) p) (ap (λ b. cond b y x) (eq-eqb (count_at v p) 0 z)) ∙ at_second v w p y a (s k.0 k.2))
       | inr z ↦
-          (let k = passing_find 256 (waits_at_lem v p) (omega arith) in
-          ap (waits_at_lem (joined v w) p) (ap (λ b. cond b y x) (ne_eqb (count_at v p) 0 z)) ∙ at_first v w p x a (f k.0 k.2))
+          (let k = passing_find 256 (waits_at v p) (omega arith) in
+          ap (waits_at (joined v w) p) (ap (λ b. cond b y x) (ne_eqb (count_at v p) 0 z)) ∙ at_first v w p x a (f k.0 k.2))
     ]
 
 -- a cell more, and a cell less, at its own number and at the others
@@ -181,7 +181,7 @@ pub pick_some : (v w : Waiting) (p : ℕ) → (count_at v p ≡ 0 → ⊥) → (
 pick_some v w p m n =
     ap (λ b. or_else (when (ltb 31 p) OutOfRange) (when b NoneWaits)) (ne_eqb (count_at v p) 0 m ∙ sym (ne_eqb (count_at w p) 0 n))
 
-pub withdraw_alike : (v w : Waiting) (p c : ℕ) → waits_at_lem v p c ≡ waits_at_lem w p c → withdraw_test v p c ≡ withdraw_test w p c
+pub withdraw_alike : (v w : Waiting) (p c : ℕ) → waits_at v p c ≡ waits_at w p c → withdraw_test v p c ≡ withdraw_test w p c
 withdraw_alike v w p c e = ap (λ b. or_else (when (ltb 31 p || ltb 255 c) OutOfRange) (when (not b) NotWaiting)) e
 
 pub pick_second : (v w : Waiting) (p : ℕ) → Apart v w → count_at v p ≡ 0 → pick_test (joined v w) p ≡ pick_test w p
@@ -193,5 +193,5 @@ pick_first v w p a n = pick_some (joined v w) v p (λ z. n (let sum = count_join
 pub withdraw_first : (v w : Waiting) (p c : ℕ) → Apart v w → At v p c → withdraw_test (joined v w) p c ≡ withdraw_test v p c
 withdraw_first v w p c a h = withdraw_alike (joined v w) v p c (at_first v w p c a h ∙ sym h)
 
-pub withdraw_second : (v w : Waiting) (p c : ℕ) → Apart v w → waits_at_lem v p c ≡ false → withdraw_test (joined v w) p c ≡ withdraw_test w p c
+pub withdraw_second : (v w : Waiting) (p c : ℕ) → Apart v w → waits_at v p c ≡ false → withdraw_test (joined v w) p c ≡ withdraw_test w p c
 withdraw_second v w p c a h = withdraw_alike (joined v w) w p c (elsewhere v w p c a h)

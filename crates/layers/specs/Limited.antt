@@ -7,7 +7,7 @@ use Rattle.refusal.specs.declared.Refusal.TheVariants.{OutOfRange, AlreadyWaits,
 use Rattle.refusal.proofs.Ordered.{or_else_passes, when_passes}
 use Rattle.discipline.specs.declared.stay.Stay.{Stay}
 use Rattle.discipline.specs.Calls.{arrive_test, pick_test, withdraw_test, told}
-use Rattle.discipline.specs.Meaning.{Waiting, Limits, At, Lawful, stays_at, waits_at_lem, count_at}
+use Rattle.discipline.specs.Meaning.{Waiting, Limits, At, Lawful, stays_at, waits_at, count_at}
 use Rattle.discipline.proofs.Counting.{passing_find}
 
 -- no cell over 255 waits
@@ -43,13 +43,13 @@ chosen_at w p x h lawful =
     let n = eqb-false (count_at w p) 0 b in
     elim (cases_eq (count_at w p) 0) [
       | inl z ↦ absurd (n z)
-      | inr z ↦ (let k = passing_find 256 (waits_at_lem w p) (omega arith) in lawful k.0 k.2)
+      | inr z ↦ (let k = passing_find 256 (waits_at w p) (omega arith) in lawful k.0 k.2)
     ]
 
 -- a withdrawal that passes its test finds its cell waiting
 pub withdrawn_at : (w : Waiting) (p c : ℕ) → withdraw_test w p c ≡ None → At w p c
 withdrawn_at w p c h =
-    not-false (waits_at_lem w p c) (when_passes (not (waits_at_lem w p c)) NotWaiting (or_else_passes (when (ltb 31 p || ltb 255 c) OutOfRange) (when (not (waits_at_lem w p c)) NotWaiting) h).1)
+    not-false (waits_at w p c) (when_passes (not (waits_at w p c)) NotWaiting (or_else_passes (when (ltb 31 p || ltb 255 c) OutOfRange) (when (not (waits_at w p c)) NotWaiting) h).1)
 
 -- an arrival that passes its test is of one of the 256 cells
 pub arrive_limit : (w : Waiting) (p c f : ℕ) → arrive_test w p c f ≡ None → c < 256
@@ -70,5 +70,5 @@ pick_passes w p l n =
 -- a withdrawal of a cell that waits passes its test
 pub withdraw_passes : (w : Waiting) (p c : ℕ) → ltb 31 p ≡ false → c < 256 → At w p c → withdraw_test w p c ≡ None
 withdraw_passes w p c l m h =
-    ap (λ b. or_else (when b OutOfRange) (when (not (waits_at_lem w p c)) NotWaiting)) (or_from (ltb 31 p) (ltb 255 c) l (le-ltb 255 c (omega arith)))
+    ap (λ b. or_else (when b OutOfRange) (when (not (waits_at w p c)) NotWaiting)) (or_from (ltb 31 p) (ltb 255 c) l (le-ltb 255 c (omega arith)))
     ∙ ap (λ b. when (not b) NotWaiting) h

@@ -1,7 +1,7 @@
 -- What a scan over the cells of a port finds.
 use Rattle.std.proofs.Common.{◌≡◌, ℕ, zero, suc, ◌+◌, ◌-◌, ◌<◌, true, false, cond, ltb, leb, List, get_or, Some, None, Option, sym, refl, ap, ◌∙◌, subst, inl, inr, add-one, arith}
 use Rattle.std.proofs.lemmas.Bool.{cases_eq, cases_Bool, cases_lt, lt-ltb, le-ltb, and_parts}
-use Rattle.discipline.specs.Meaning.{Waiting, waits_at_lem, At, Limits, Lawful}
+use Rattle.discipline.specs.Meaning.{Waiting, waits_at, At, Limits, Lawful}
 use Rattle.layers.specs.Ages.{slot_of, old, Old, Earlier, Oldest, earlier_of, oldest_below, aged_choice, Noted}
 use Rattle.layers.specs.Limited.{at_limit}
 use Rattle.layers.specs.Noting.{noted_slot}
@@ -13,7 +13,7 @@ Found w a p t n (Some x) = (x < n) × Old w a p t x × ((c : ℕ) → c < n → 
 
 -- an old cell waits at the port
 pub old_at : (w : Waiting) (a p t c : ℕ) → Old w a p t c → At w p c
-old_at w a p t c h = (and_parts (waits_at_lem w p c) (leb a (t - slot_of (w c))) h).0
+old_at w a p t c h = (and_parts (waits_at w p c) (leb a (t - slot_of (w c))) h).0
 
 module _ (w : Waiting) (a p t : ℕ) where
   -- a cell that is old

@@ -1,6 +1,6 @@
 // Questions that the layers put to a discipline below them.
 ghost use Rattle.std.specs.Prelude.{◌≡◌, is_some};
-ghost use Rattle.discipline.specs.Meaning.{waits_at_lem};
+ghost use Rattle.discipline.specs.Meaning.{waits_at};
 
 use discipline::Discipline;
 
@@ -17,7 +17,7 @@ pub(crate) fn waits<D: Discipline>(d: &D, cell: usize) -> bool
 
 // Whether a cell waits at a port.
 pub(crate) fn waits_at<D: Discipline>(d: &D, port: usize, cell: usize) -> bool
-    ensures { D.Discipline.sound d.now → result ≡ waits_at_lem (D.Discipline.waiting d.now) port cell }
+    ensures { D.Discipline.sound d.now → result ≡ waits_at (D.Discipline.waiting d.now) port cell }
 {
     match d.where_is(cell) {
         Ok(Some(place)) => place == port,

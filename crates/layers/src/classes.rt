@@ -1,7 +1,7 @@
 // Classes of flows: the cells of the flows below a number wait in a first discipline and go before all others, which wait in
 // a second.
 ghost use Rattle.std.specs.Prelude.{◌≡◌, ◌==◌, nat_lt};
-ghost use Rattle.discipline.specs.Meaning.{count_at, waits_at_lem, Empty};
+ghost use Rattle.discipline.specs.Meaning.{count_at, waits_at, Empty};
 ghost use Rattle.layers.specs.Halves.{joined, half_choice, Either, BothSound};
 ghost use Rattle.layers.specs.Making.{Tested};
 ghost use Rattle.layers.specs.Joining.{limits_joined, lawful_joined};
@@ -58,7 +58,7 @@ impl<F: Discipline, S: Discipline> Discipline for Classes<F, S> {
 
     ghost picks = { λ d p t c e. (e.below ≡ d.below) × Either (count_at (F.Discipline.waiting d.first) p == 0) (S.Discipline.picks d.second p t c e.second × (e.first ≡ d.first)) (F.Discipline.picks d.first p t c e.first × (e.second ≡ d.second)) };
 
-    ghost withdraws = { λ d p c e. (e.below ≡ d.below) × Either (waits_at_lem (F.Discipline.waiting d.first) p c) (F.Discipline.withdraws d.first p c e.first × (e.second ≡ d.second)) (S.Discipline.withdraws d.second p c e.second × (e.first ≡ d.first)) };
+    ghost withdraws = { λ d p c e. (e.below ≡ d.below) × Either (waits_at (F.Discipline.waiting d.first) p c) (F.Discipline.withdraws d.first p c e.first × (e.second ≡ d.second)) (S.Discipline.withdraws d.second p c e.second × (e.first ≡ d.first)) };
 
     ghost limits = { λ d s. limits_joined (F.Discipline.waiting d.first) (S.Discipline.waiting d.second) (F.Discipline.limits d.first s.0) (S.Discipline.limits d.second s.1) };
 

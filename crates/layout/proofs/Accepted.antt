@@ -8,7 +8,7 @@ use Rattle.layout.specs.declared.kind.Accepts.{Accepts}
 use Rattle.layout.specs.declared.kind.Kind.TheVariants as kinds
 use Rattle.layout.specs.declared.kind.Pile.{Pile}
 use Rattle.layout.specs.declared.kind.Pile.TheVariants as piles
-use Rattle.layout.specs.Fields.{byte, long, kind_at, pile_at, port_count, cell_count, hop_count, file_length_lem, flow_at, first_at_lem, cell_offset}
+use Rattle.layout.specs.Fields.{byte, long, kind_at, pile_at, port_count, cell_count, hop_count, file_length, flow_at, first_at, cell_offset}
 use Rattle.layout.specs.Contents.{Hop, Content, no_hop, total_hops, kind_number, pile_number, Fit}
 use Rattle.layout.specs.Canonical.{canonical}
 use Rattle.layout.specs.Order.{takes, head_test, load_nonzero, port_fields, cell_fields, leads_on, hop_fields, chain_of, twice_test, chain_test, unreached_test, field_tests, chain_tests, first_refusal}
@@ -65,7 +65,7 @@ module _ (x : Content) (fit : Fit x) where
       let has_cells : not (within 1 256 (cell_count bs)) ≡ false =
       within_passes 1 256 (cell_count bs) (rw cells fit.has_cells) (rw cells fit.few_cells) in
       let few_hops : ltb 2048 (hop_count bs) ≡ false = le-ltb 2048 (hop_count bs) (rw hops few) in
-      let sized : not (eqb (length bs) (file_length_lem (port_count bs) (cell_count bs) (hop_count bs))) ≡ false =
+      let sized : not (eqb (length bs) (file_length (port_count bs) (cell_count bs) (hop_count bs))) ≡ false =
       not_from_true _ (eq-eqb (length bs) _ (rw (ports, cells, hops) size)) in
       rw (long-enough, taken, piled, has_ports, has_cells, few_hops, sized)
 
@@ -86,7 +86,7 @@ module _ (x : Content) (fit : Fit x) where
       let a : ltb 7 (flow_at (canonical x) c) ≡ false = rw r.flow (le-ltb 7 (cell x c).flow flow) in
       let b : not (eqb (byte (canonical x) (cell_offset (canonical x) c + 3)) 0) ≡ false =
       not_from_true _ (eq-eqb _ 0 r.none) in
-      let d : ltb (hop_count (canonical x)) (first_at_lem (canonical x) c) ≡ false =
+      let d : ltb (hop_count (canonical x)) (first_at (canonical x) c) ≡ false =
       rw (r.first, hops_is x fit) (le-ltb (total_hops x.cells) (first_of x c) (omega arith)) in
       let e : load_nonzero (canonical x) (long (canonical x) (cell_offset (canonical x) c + 6)) ≡ false =
       rw r.slack (load_passes (of_z w32 (cell x c).slack) (λ e. ap (of_z w32) ((fit.marks c k).2 e))) in

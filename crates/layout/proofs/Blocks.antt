@@ -29,8 +29,8 @@ module _ {A : Type 0} where
   stands_on bs vs ws rest n k s e = (rest, sym (drop-drop k n bs) ∙ ap (drop k) s.1 ∙ e)
 
   -- the elements
-  pub stands_getD : (bs vs : List A) (n k : ℕ) (d : A) (s : Stands bs n vs) → get_or bs (n + k) d ≡ get_or (vs ++ s.0) k d
-  stands_getD bs vs n k d s = sym (get_or-drop n bs k d) ∙ ap (λ l. get_or l k d) s.1
+  pub stands_get_or : (bs vs : List A) (n k : ℕ) (d : A) (s : Stands bs n vs) → get_or bs (n + k) d ≡ get_or (vs ++ s.0) k d
+  stands_get_or bs vs n k d s = sym (get_or-drop n bs k d) ∙ ap (λ l. get_or l k d) s.1
 
 module _ {X A : Type 0} (f : X → List A) where
   pub joined_append : (xs ys : List X) → flat_map f (xs ++ ys) ≡ flat_map f xs ++ flat_map f ys

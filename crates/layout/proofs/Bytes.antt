@@ -4,18 +4,18 @@ use native.Mathlib.Nat.{div-div-eq-div-mul}
 use mir.Facts.{Fits-of_z}
 use Rattle.layout.specs.Fields.{byte, word, long}
 use Rattle.layout.specs.Canonical.{RecordOfCell, RecordOfHop, word_bytes, long_bytes, cell_bytes, hop_bytes}
-use Rattle.layout.proofs.Blocks.{Stands, stands_left, stands_on, stands_getD}
+use Rattle.layout.proofs.Blocks.{Stands, stands_left, stands_on, stands_get_or}
 
 -- the byte at the offset itself
 pub byte_stands : (bs vs : List ℕ) (n v : ℕ) → Stands bs n (v ∷ vs) → byte bs n ≡ v
-byte_stands bs vs n v s = ap (byte bs) (sym (add-zero n)) ∙ stands_getD bs (v ∷ vs) n 0 0 s
+byte_stands bs vs n v s = ap (byte bs) (sym (add-zero n)) ∙ stands_get_or bs (v ∷ vs) n 0 0 s
 
 -- a number of two bytes
 pub word_stands : (bs : List ℕ) (n v : ℕ) → v < 2 ^ 16 → Stands bs n (word_bytes v) → word bs n ≡ v
 unfolding word
 word_stands bs n v l s =
     let a = byte_stands bs (v % 256 ∷ []) n (v / 256 % 256) s in
-    let b : byte bs (n + 1) ≡ v % 256 = stands_getD bs (word_bytes v) n 1 0 s in
+    let b : byte bs (n + 1) ≡ v % 256 = stands_get_or bs (word_bytes v) n 1 0 s in
     rw (a, b) (omega arith)
 
 four_bytes :
@@ -39,9 +39,9 @@ pub long_stands : (bs : List ℕ) (n v : ℕ) → v < 2 ^ 32 → Stands bs n (lo
 unfolding long
 long_stands bs n v l s =
     let a = byte_stands bs (v / 65536 % 256 ∷ v / 256 % 256 ∷ v % 256 ∷ []) n (v / 16777216 % 256) s in
-    let b : byte bs (n + 1) ≡ v / 65536 % 256 = stands_getD bs (long_bytes v) n 1 0 s in
-    let c : byte bs (n + 2) ≡ v / 256 % 256 = stands_getD bs (long_bytes v) n 2 0 s in
-    let d : byte bs (n + 3) ≡ v % 256 = stands_getD bs (long_bytes v) n 3 0 s in
+    let b : byte bs (n + 1) ≡ v / 65536 % 256 = stands_get_or bs (long_bytes v) n 1 0 s in
+    let c : byte bs (n + 2) ≡ v / 256 % 256 = stands_get_or bs (long_bytes v) n 2 0 s in
+    let d : byte bs (n + 3) ≡ v % 256 = stands_get_or bs (long_bytes v) n 3 0 s in
     rw (a, b, c, d) (four_bytes v l)
 
 -- a slack of 32 bits, as the number of four bytes that it is in two's complement
@@ -63,8 +63,8 @@ reads_cell bs n r e f z s =
     let rest = r.flow ∷ 0 ∷ (word_bytes r.first ++ long_bytes (of_z w32 r.slack)) in
     record {
       entry = word_stands bs n r.entry e (stands_left bs (word_bytes r.entry) rest n s);
-      flow = stands_getD bs (cell_bytes r) n 2 0 s;
-      none = stands_getD bs (cell_bytes r) n 3 0 s;
+      flow = stands_get_or bs (cell_bytes r) n 2 0 s;
+      none = stands_get_or bs (cell_bytes r) n 3 0 s;
       first = word_stands bs (n + 4) r.first f (stands_on bs (cell_bytes r) (word_bytes r.first) _ n 4 s refl);
       slack = slack_stands bs (n + 6) r.slack z (stands_on bs (cell_bytes r) (long_bytes (of_z w32 r.slack)) _ n 6 s refl);
     }
@@ -81,7 +81,7 @@ pub reads_hop :
 reads_hop bs n r e f s =
     record {
       next = word_stands bs n r.next e (stands_left bs (word_bytes r.next) (r.port ∷ 0 ∷ long_bytes r.sent) n s);
-      port = stands_getD bs (hop_bytes r) n 2 0 s;
-      none = stands_getD bs (hop_bytes r) n 3 0 s;
+      port = stands_get_or bs (hop_bytes r) n 2 0 s;
+      none = stands_get_or bs (hop_bytes r) n 3 0 s;
       sent = long_stands bs (n + 4) r.sent f (stands_on bs (hop_bytes r) (long_bytes r.sent) _ n 4 s refl);
     }

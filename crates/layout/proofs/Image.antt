@@ -11,13 +11,13 @@ use Rattle.layout.proofs.Size.{length_cell_records, length_route_records}
 use Rattle.layout.proofs.Limits.{cell, before, fitting, total_few, before_few}
 
 -- the record of cell c
-pub getD_cell_records :
+pub get_or_cell_records :
     (i : ℕ) (cs : List Scheduled) (c : ℕ) (e : RecordOfCell) → c < length cs
     → get_or (cell_records i cs) c e ≡ cell_record (i + before c cs) (get_or cs c no_scheduled)
-getD_cell_records i [] c e l = absurd (omega arith)
-getD_cell_records i (x ∷ cs) zero e l = ap (λ k. cell_record k x) (sym (add-zero i))
-getD_cell_records i (x ∷ cs) (suc c) e l =
-    getD_cell_records (i + length x.hops) cs c e (omega arith)
+get_or_cell_records i [] c e l = absurd (omega arith)
+get_or_cell_records i (x ∷ cs) zero e l = ap (λ k. cell_record k x) (sym (add-zero i))
+get_or_cell_records i (x ∷ cs) (suc c) e l =
+    get_or_cell_records (i + length x.hops) cs c e (omega arith)
     ∙ ap (λ k. cell_record k (get_or cs c no_scheduled)) (add_assoc i (length x.hops) (before c cs))
 
 -- the records of the route of cell c stand 8 * (hops before it) further on
@@ -129,7 +129,7 @@ module _ (x : Content) (fit : Fit x) where
       (simp length_cell_records l) (stands_cells x) in
       rw ports_is
       (reads_cell (canonical x) _ (cell_record (first_of x c) (cell x c)) (omega arith) (omega arith) (fit.marks c l).0
-      (rw (getD_cell_records 1 x.cells c e l) at s))
+      (rw (get_or_cell_records 1 x.cells c e l) at s))
 
   -- the hop records of cell c
   pub route_is :

@@ -1,7 +1,7 @@
 -- The length of the canonical file.
 use Rattle.std.proofs.Common.{◌≡◌, ℕ, suc, ◌+◌, List, [], ◌∷◌, ◌++◌, length, refl, ap, arith, length-append}
 use Rattle.std.specs.List.{flat_map}
-use Rattle.layout.specs.Fields.{file_length_lem}
+use Rattle.layout.specs.Fields.{file_length}
 use Rattle.layout.specs.Contents.{Hop, Scheduled, Content, total_hops}
 use Rattle.layout.specs.Canonical.{word_bytes, cell_bytes, hop_bytes, cell_records, route_records, hop_records, canonical, canonical_length}
 use Rattle.layout.proofs.Blocks.{length_joined}
@@ -24,7 +24,7 @@ length_hop_records i (c ∷ cs) =
 
 -- 8 bytes of head, 2 for each port, 10 for each cell, 8 for each hop record
 pub canonical_size :
-    (x : Content) → canonical_length x ≡ file_length_lem (length x.delays) (length x.cells) (total_hops x.cells)
+    (x : Content) → canonical_length x ≡ file_length (length x.delays) (length x.cells) (total_hops x.cells)
 unfolding canonical
 canonical_size x =
     let ds = flat_map word_bytes x.delays in

@@ -6,7 +6,7 @@ use Rattle.layout.specs.declared.fields.CellFields.{CellFields}
 use Rattle.layout.specs.declared.fields.HopFields.{HopFields}
 use Rattle.layout.specs.Sources.{TellsCell, TellsHop}
 use Rattle.layout.specs.Contents.{Hop, Scheduled, Content, no_hop, no_scheduled, total_hops}
-use Rattle.layout.specs.Fields.{file_length_lem}
+use Rattle.layout.specs.Fields.{file_length}
 use Rattle.layout.specs.Canonical.{word_bytes, cell_bytes, hop_bytes, next_of, cell_records, route_records, hop_records, head_bytes, canonical, canonical_length}
 use Rattle.layout.specs.Placed.{placed, cells_start, hop_start, hops_of}
 use Rattle.layout.proofs.Blocks.{length_joined, joined_append}
@@ -32,7 +32,7 @@ abbrev pub route_done : ℕ → List Hop → ℕ → List ℕ
 route_done i hs j = flat_map hop_bytes (take j (route_records i hs))
 
 -- the ports: one more, and all
-pub ports_more : (x : Content) (out : List ℕ) (p : ℕ) {now after bs : List ℕ} {n : ℕ} → p < length x.delays → cells_start x ≤ length out → now ≡ placed out 8 (ports_done x p) → after ≡ placed now n bs → n ≡ file_length_lem p 0 0 → bs ≡ word_bytes (get_or x.delays p 0) → after ≡ placed out 8 (ports_done x (p + 1))
+pub ports_more : (x : Content) (out : List ℕ) (p : ℕ) {now after bs : List ℕ} {n : ℕ} → p < length x.delays → cells_start x ≤ length out → now ≡ placed out 8 (ports_done x p) → after ≡ placed now n bs → n ≡ file_length p 0 0 → bs ≡ word_bytes (get_or x.delays p 0) → after ≡ placed out 8 (ports_done x (p + 1))
 ports_more x out p l room before put at is =
     let long = length-take-le p x.delays (omega arith) in
     placed_more word_bytes 2 (λ _. refl) out 8 (take p x.delays) (get_or x.delays p 0) before put is
@@ -46,7 +46,7 @@ pub total_more : (cs : List Scheduled) (k : ℕ) → k < length cs → total_hop
 total_more cs k l = rw add-one (before_more cs k l)
 
 -- the cells: one more, and all
-pub cells_more : (x : Content) (out : List ℕ) (k : ℕ) (f : CellFields) {now after bs : List ℕ} {n first : ℕ} → k < length x.cells → hop_start x 0 ≤ length out → now ≡ placed out (cells_start x) (cells_done x k) → after ≡ placed now n bs → n ≡ file_length_lem (length x.delays) k 0 → first ≡ 1 + total_hops (take k x.cells) → TellsCell f (get_or x.cells k no_scheduled) → bs ≡ cell_bytes (record { entry = f.entry; flow = f.flow; first = first; slack = f.slack }) → after ≡ placed out (cells_start x) (cells_done x (k + 1))
+pub cells_more : (x : Content) (out : List ℕ) (k : ℕ) (f : CellFields) {now after bs : List ℕ} {n first : ℕ} → k < length x.cells → hop_start x 0 ≤ length out → now ≡ placed out (cells_start x) (cells_done x k) → after ≡ placed now n bs → n ≡ file_length (length x.delays) k 0 → first ≡ 1 + total_hops (take k x.cells) → TellsCell f (get_or x.cells k no_scheduled) → bs ≡ cell_bytes (record { entry = f.entry; flow = f.flow; first = first; slack = f.slack }) → after ≡ placed out (cells_start x) (cells_done x (k + 1))
 cells_more x out k f l room before put at from tells is =
     let front = take k x.cells in
     let cell = get_or x.cells k no_scheduled in

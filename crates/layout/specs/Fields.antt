@@ -32,8 +32,8 @@ abbrev pub hop_count : List ℕ → ℕ
 hop_count bs = word bs 6
 
 -- 8 bytes of head, 2 for each port, 10 for each cell, 8 for each hop record
-abbrev pub file_length_lem : ℕ → ℕ → ℕ → ℕ
-file_length_lem ports cells hops = 8 + 2 * ports + 10 * cells + 8 * hops
+abbrev pub file_length : ℕ → ℕ → ℕ → ℕ
+file_length ports cells hops = 8 + 2 * ports + 10 * cells + 8 * hops
 
 -- a port: its delay
 abbrev pub port_offset : ℕ → ℕ
@@ -52,8 +52,8 @@ entry_at bs c = word bs (cell_offset bs c)
 abbrev pub flow_at : List ℕ → ℕ → ℕ
 flow_at bs c = byte bs (cell_offset bs c + 2)
 
-abbrev pub first_at_lem : List ℕ → ℕ → ℕ
-first_at_lem bs c = word bs (cell_offset bs c + 4)
+abbrev pub first_at : List ℕ → ℕ → ℕ
+first_at bs c = word bs (cell_offset bs c + 4)
 
 abbrev pub slack_at : List ℕ → ℕ → ℤ
 slack_at bs c = to_z w32 (long bs (cell_offset bs c + 6))

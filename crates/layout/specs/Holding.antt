@@ -1,7 +1,7 @@
 -- What it means that bytes hold a content: each field stands at its offset, and each cell's hops are the records of a
 -- chain that begins at the cell's first index and ends at index 0.
 use Rattle.std.specs.Prelude.{◌≡◌, ℕ, ◌<◌, List, [], ◌∷◌, length, slice_index, slice_index_or}
-use Rattle.layout.specs.Fields.{kind_at, pile_at, port_count, cell_count, delay_at, entry_at, flow_at, first_at_lem, slack_at, next_at, port_at, sent_at}
+use Rattle.layout.specs.Fields.{kind_at, pile_at, port_count, cell_count, delay_at, entry_at, flow_at, first_at, slack_at, next_at, port_at, sent_at}
 use Rattle.layout.specs.Contents.{Hop, Scheduled, Content, no_scheduled, kind_number, pile_number}
 
 -- the chain of records from index i on holds these hops
@@ -15,7 +15,7 @@ pub record CellHeld (bs : List ℕ) (c : ℕ) (x : Scheduled) : Type 0 where
   pub entry : x.entry ≡ entry_at bs c
   pub flow : x.flow ≡ flow_at bs c
   pub slack : x.slack ≡ slack_at bs c
-  pub hops : Chained bs (first_at_lem bs c) x.hops
+  pub hops : Chained bs (first_at bs c) x.hops
 
 pub record Held (bs : List ℕ) (x : Content) : Type 0 where
   pub kind : kind_number x.kind ≡ kind_at bs

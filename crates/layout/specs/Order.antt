@@ -6,7 +6,7 @@ use Rattle.refusal.specs.declared.Refusal.TheVariants.{WrongLength, BadField, Ba
 use Rattle.plan.specs.Cells.{has, within, route_test}
 use Rattle.layout.specs.declared.kind.Accepts.{Accepts}
 use Rattle.layout.specs.declared.kind.Accepts.TheVariants.{AnyKind, LoadsOnly}
-use Rattle.layout.specs.Fields.{byte, long, kind_at, pile_at, port_count, cell_count, hop_count, file_length_lem, port_offset, delay_at, cell_offset, flow_at, first_at_lem, hop_offset, next_at, port_at, sent_at}
+use Rattle.layout.specs.Fields.{byte, long, kind_at, pile_at, port_count, cell_count, hop_count, file_length, port_offset, delay_at, cell_offset, flow_at, first_at, hop_offset, next_at, port_at, sent_at}
 
 -- whether the caller takes a kind
 abbrev pub takes : Accepts → ℕ → Bool
@@ -27,7 +27,7 @@ head_test a bs =
     (or_else (when (not (takes a (kind_at bs))) (BadField 0))
     (or_else (when (nat_lt 2 (pile_at bs)) (BadField 1))
     (or_else (count_tests (port_count bs) (cell_count bs) (hop_count bs))
-    (when (not (length bs == file_length_lem (port_count bs) (cell_count bs) (hop_count bs))) (WrongLength (length bs))))))
+    (when (not (length bs == file_length (port_count bs) (cell_count bs) (hop_count bs))) (WrongLength (length bs))))))
 
 -- whether a field that is zero in a load is not
 abbrev pub load_nonzero : List ℕ → ℕ → Bool
@@ -42,7 +42,7 @@ abbrev pub cell_fields : List ℕ → ℕ → Option Refusal
 cell_fields bs c =
     or_else (when (nat_lt 7 (flow_at bs c)) (BadFlow c))
     (or_else (when (not (byte bs (cell_offset bs c + 3) == 0)) (BadField (cell_offset bs c + 3)))
-    (or_else (when (nat_lt (hop_count bs) (first_at_lem bs c)) (BadIndex (cell_offset bs c + 4)))
+    (or_else (when (nat_lt (hop_count bs) (first_at bs c)) (BadIndex (cell_offset bs c + 4)))
     (when (load_nonzero bs (long bs (cell_offset bs c + 6))) (BadField (cell_offset bs c + 6)))))
 
 -- whether a next index is 0, or above its own and not above the hop count
@@ -63,7 +63,7 @@ chain_from (suc n) bs i = cond (i == 0) [] (i ∷ chain_from n bs (next_at bs i)
 
 -- the chain of cell c: where every next index leads on, no chain is longer than there are records
 abbrev pub chain_of : List ℕ → ℕ → List ℕ
-chain_of bs c = chain_from (hop_count bs) bs (first_at_lem bs c)
+chain_of bs c = chain_from (hop_count bs) bs (first_at bs c)
 
 -- the records on the chains of the cells below c, in the order in which they are reached
 abbrev pub reached : List ℕ → ℕ → List ℕ

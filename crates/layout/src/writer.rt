@@ -3,7 +3,7 @@ ghost use Rattle.std.specs.Prelude.{◌≡◌, ◌+◌, ◌<◌, ◌≤◌, leng
 ghost use Rattle.std.specs.List.{flat_map};
 ghost use Rattle.layout.specs.Canonical.{word_bytes, cell_bytes, hop_bytes, cell_records, route_records, hop_records, head_bytes, canonical_length};
 ghost use Rattle.layout.specs.Contents.{kind_number, pile_number, total_hops};
-ghost use Rattle.layout.specs.Fields.{file_length_lem};
+ghost use Rattle.layout.specs.Fields.{file_length};
 ghost use Rattle.layout.specs.Placed.{placed, cells_start, hop_start, hops_of};
 ghost use Rattle.layout.specs.RoundTrip.{ReadsBack, Written};
 
@@ -39,7 +39,7 @@ pub fn write<S: Source>(s: &S, out: &mut [u8]) -> Result<usize, Refusal>
 // How many bytes so many ports, cells and hops take, with the head.
 fn bytes_for(ports: usize, cells: usize, hops: usize) -> usize
     requires { (ports ≤ 32) × ((cells ≤ 256) × (hops ≤ 2048)) }
-    ensures { result ≡ file_length_lem ports cells hops }
+    ensures { result ≡ file_length ports cells hops }
 {
     8 + 2 * ports + 10 * cells + 8 * hops
 }

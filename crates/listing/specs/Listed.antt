@@ -13,16 +13,16 @@ abbrev pub feed : List ℕ
 feed = 10 ∷ []
 
 -- the word for a kind
-abbrev pub kind_word_lem : Kind → List ℕ
-kind_word_lem Load = codes "load"
-kind_word_lem Recording = codes "recording"
-kind_word_lem Replay = codes "replay"
+abbrev pub kind_word : Kind → List ℕ
+kind_word Load = codes "load"
+kind_word Recording = codes "recording"
+kind_word Replay = codes "replay"
 
 -- the number of a queue discipline, and the words for it
-abbrev pub pile_words_lem : Pile → List ℕ
-pile_words_lem Fifo = codes "0 fifo"
-pile_words_lem Lifo = codes "1 lifo"
-pile_words_lem Aged = codes "2 ageing 16 over classes 4 over fifo and lifo"
+abbrev pub pile_words : Pile → List ℕ
+pile_words Fifo = codes "0 fifo"
+pile_words Lifo = codes "1 lifo"
+pile_words Aged = codes "2 ageing 16 over classes 4 over fifo and lifo"
 
 -- the lines of the items, of which the first has the number i
 abbrev pub lines_from : {X : Type 0} → (ℕ → X → List ℕ) → ℕ → List X → List ℕ
@@ -31,11 +31,11 @@ lines_from line i (x ∷ xs) = line i x ++ lines_from line (i + 1) xs
 
 -- the line of the kind
 abbrev pub kind_line : Kind → List ℕ
-kind_line k = codes "kind " ++ (kind_word_lem k ++ feed)
+kind_line k = codes "kind " ++ (kind_word k ++ feed)
 
 -- the line of the queue discipline
 abbrev pub pile_line : Pile → List ℕ
-pile_line p = codes "pile " ++ (pile_words_lem p ++ feed)
+pile_line p = codes "pile " ++ (pile_words p ++ feed)
 
 -- the line of the port with the number n
 abbrev pub port_line : ℕ → ℕ → List ℕ

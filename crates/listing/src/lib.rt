@@ -4,7 +4,7 @@
 mod cell;
 
 ghost use Rattle.std.specs.Prelude.{◌≡◌, ◌++◌, IfOk, string_bytes, OnOk};
-ghost use Rattle.listing.specs.Listed.{kind_word_lem, pile_words_lem, kind_line, pile_line, port_line, lines_from, cell_line, listed};
+ghost use Rattle.listing.specs.Listed.{kind_word, pile_words, kind_line, pile_line, port_line, lines_from, cell_line, listed};
 
 use crate::cell::write_cell;
 use layout::{Kind, Pile, Source};
@@ -12,7 +12,7 @@ use std::alloc::{AllocError, Global};
 
 // The word for a kind.
 fn kind_word(kind: Kind) -> &'static str
-    ensures { result.now ≡ kind_word_lem kind }
+    ensures { result.now ≡ kind_word kind }
 {
     match kind {
         Kind::Load => "load",
@@ -23,7 +23,7 @@ fn kind_word(kind: Kind) -> &'static str
 
 // The number of a queue discipline, and the words for it.
 fn pile_words(pile: Pile) -> &'static str
-    ensures { result.now ≡ pile_words_lem pile }
+    ensures { result.now ≡ pile_words pile }
 {
     match pile {
         Pile::Fifo => "0 fifo",

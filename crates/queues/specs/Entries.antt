@@ -27,14 +27,14 @@ at_port [] p = 0
 at_port (e ∷ q) p = cond (e.port == p) (suc (at_port q p)) (at_port q p)
 
 -- the cell of the first entry at port p; 0 where none is there
-abbrev pub first_at_lem : List Entry → ℕ → ℕ
-first_at_lem [] p = 0
-first_at_lem (e ∷ q) p = cond (e.port == p) e.cell (first_at_lem q p)
+abbrev pub first_at : List Entry → ℕ → ℕ
+first_at [] p = 0
+first_at (e ∷ q) p = cond (e.port == p) e.cell (first_at q p)
 
 -- the cell of the last entry at port p; 0 where none is there
-abbrev pub last_at_lem : List Entry → ℕ → ℕ
-last_at_lem [] p = 0
-last_at_lem (e ∷ q) p = cond (at_port q p == 0) (first_at_lem (e ∷ []) p) (last_at_lem q p)
+abbrev pub last_at : List Entry → ℕ → ℕ
+last_at [] p = 0
+last_at (e ∷ q) p = cond (at_port q p == 0) (first_at (e ∷ []) p) (last_at q p)
 
 -- the entries of the other cells
 abbrev pub without : List Entry → ℕ → List Entry

@@ -5,7 +5,7 @@ use Rattle.std.proofs.lemmas.Bool.{or_from, le-ltb, eqb-false}
 use Rattle.refusal.specs.Tests.{when, or_else}
 use Rattle.refusal.specs.declared.Refusal.TheVariants.{OutOfRange, AlreadyWaits, NoneWaits, NotWaiting}
 use Rattle.refusal.proofs.Ordered.{or_else_passes, when_passes}
-use Rattle.discipline.specs.Meaning.{Waiting, waits_at_lem, count_at}
+use Rattle.discipline.specs.Meaning.{Waiting, waits_at, count_at}
 use Rattle.discipline.specs.Calls.{arrive_test, pick_test, withdraw_test}
 use Rattle.queues.specs.Entries.{waiting_in, at_port, proper}
 use Rattle.queues.specs.declared.entry.Entry.{Entry}
@@ -28,9 +28,9 @@ pick_last w p n l h =
     ap (λ b. or_else (when b OutOfRange) (when (count_at w p == 0) NoneWaits)) (le-ltb 31 p l)
     ∙ ap (λ m. when (m == 0) NoneWaits) h
 
-pub withdraw_last : (w : Waiting) (p c : ℕ) → p ≤ 31 → c ≤ 255 → withdraw_test w p c ≡ when (not (waits_at_lem w p c)) NotWaiting
+pub withdraw_last : (w : Waiting) (p c : ℕ) → p ≤ 31 → c ≤ 255 → withdraw_test w p c ≡ when (not (waits_at w p c)) NotWaiting
 withdraw_last w p c lp lc =
-    ap (λ b. or_else (when b OutOfRange) (when (not (waits_at_lem w p c)) NotWaiting))
+    ap (λ b. or_else (when b OutOfRange) (when (not (waits_at w p c)) NotWaiting))
     (or_from (nat_lt 31 p) (nat_lt 255 c) (le-ltb 31 p lp) (le-ltb 255 c lc))
 
 -- where a pick passes, some entry is at the port

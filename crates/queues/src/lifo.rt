@@ -2,7 +2,7 @@
 ghost use Rattle.std.specs.Prelude.{◌≡◌, [], ◌∷◌, ◌++◌};
 ghost use Rattle.std.proofs.Common.{ap, ◌∙◌};
 ghost use Rattle.discipline.specs.Meaning.{Empty};
-ghost use Rattle.queues.specs.Entries.{waiting_in, last_at_lem, without, entry_of};
+ghost use Rattle.queues.specs.Entries.{waiting_in, last_at, without, entry_of};
 ghost use Rattle.queues.specs.Lines.{queue};
 ghost use Rattle.queues.specs.Queued.{limits_in, same_with, same_without};
 ghost use Rattle.queues.specs.Chosen.{last_lawful};
@@ -31,13 +31,13 @@ impl Lifo {
 impl Discipline for Lifo {
     ghost waiting = { λ f. waiting_in (queue f.line) };
 
-    ghost choice = { λ f p t. last_at_lem (queue f.line) p };
+    ghost choice = { λ f p t. last_at (queue f.line) p };
 
     ghost sound = { λ _. Unit {0} };
 
     ghost arrives = { λ f p c _ t u g. queue g.line ≡ queue f.line ++ entry_of c p t u ∷ [] };
 
-    ghost picks = { λ f p t c g. (c ≡ last_at_lem (queue f.line) p) × (queue g.line ≡ without (queue f.line) c) };
+    ghost picks = { λ f p t c g. (c ≡ last_at (queue f.line) p) × (queue g.line ≡ without (queue f.line) c) };
 
     ghost withdraws = { λ f p c g. queue g.line ≡ without (queue f.line) c };
 

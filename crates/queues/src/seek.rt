@@ -1,6 +1,6 @@
 // Searches among the entries of a line, from its front or from its back.
 ghost use Rattle.std.specs.Prelude.{◌≡◌, ◌<◌, None, MatchOption};
-ghost use Rattle.queues.specs.Entries.{waiting_in, at_port, first_at_lem, last_at_lem, Stands, StandsAt};
+ghost use Rattle.queues.specs.Entries.{waiting_in, at_port, first_at, last_at, Stands, StandsAt};
 
 use crate::entry::Entry;
 
@@ -19,7 +19,7 @@ pub(crate) fn place_of(entries: &[Entry], cell: usize) -> Option<usize>
 // The first place at a port where some entry is.
 pub(crate) fn first_at(entries: &[Entry], port: usize) -> usize
     requires { 0 < at_port entries.now port }
-    ensures { StandsAt entries.now port (first_at_lem entries.now port) result }
+    ensures { StandsAt entries.now port (first_at entries.now port) result }
 {
     for (i, e) in entries.iter().enumerate() {
         if e.port as usize == port {
@@ -32,7 +32,7 @@ pub(crate) fn first_at(entries: &[Entry], port: usize) -> usize
 // The last place at a port where some entry is.
 pub(crate) fn last_at(entries: &[Entry], port: usize) -> usize
     requires { 0 < at_port entries.now port }
-    ensures { StandsAt entries.now port (last_at_lem entries.now port) result }
+    ensures { StandsAt entries.now port (last_at entries.now port) result }
 {
     for i in (0..entries.len()).rev() {
         if entries[i].port as usize == port {

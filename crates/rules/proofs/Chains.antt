@@ -3,7 +3,7 @@ use Rattle.std.proofs.Common.{◌≡◌, ℕ, suc, ◌<◌, ◌≤◌, true, ltb
 use Rattle.std.proofs.lemmas.Bool.{cases_eq, cases_lt, lt-ltb, ltb-true, or_cases, or_left, or_right}
 use Rattle.refusal.proofs.Options.{none_some}
 use Rattle.discipline.specs.Calls.{arrive_test}
-use Rattle.discipline.specs.Meaning.{Waiting, At, waits_at_lem, count_at}
+use Rattle.discipline.specs.Meaning.{Waiting, At, waits_at, count_at}
 use Rattle.discipline.proofs.Stays.{at_stay, stay_at}
 use Rattle.discipline.proofs.Counting.{passing_find, passing_some}
 use Rattle.network.specs.Networks.{Network, Hop, Sound}
@@ -220,7 +220,7 @@ module _ (N : Network) (flow : ℕ → ℕ) (t : ℕ) {D : Type 0} (waiting : D 
           | inl x ↦ (elim (or_cases (n.contested p) (ltb 0 (count_at (waiting o.queue) p)) (sym S.contested ∙ (ap o.contested (sym x) ∙ e))) [
             | inl y ↦ old_mark q (ap n.contested x ∙ y)
             | inr y ↦ (
-                let f = passing_find 256 (waits_at_lem (waiting o.queue) p) (ltb-true 0 _ y) in
+                let f = passing_find 256 (waits_at (waiting o.queue) p) (ltb-true 0 _ y) in
                 let s = at_stay (waiting o.queue) p f.0 f.2 in
                 let l : f.0 < N.cells = elim (cases_lt f.0 N.cells) [ inl l ↦ l | inr l ↦ absurd (none_some s.0 (inside.strangers f.0 l) s.1) ] in
                 let w = waits_so N f.0 (o.condition f.0) s.0 (sym (inside.queued f.0 l) ∙ s.1) in
@@ -232,7 +232,7 @@ module _ (N : Network) (flow : ℕ → ℕ) (t : ℕ) {D : Type 0} (waiting : D 
           | inl y ↦ S.others_contested (N.port q g) (λ z. omega arith) ∙ A.marks q g a l (sym (S.others q (other_cell q g a e)) ∙ e) y
           | inr y ↦ (
               let x : N.port q g ≡ p = omega arith in
-              let some = passing_some 256 (waits_at_lem (waiting o.queue) p) q (let lim = (L.limits o.queue inside.lawful q _ (inside.queued q l ∙ ap (stay N q) e)).0 in omega arith)
+              let some = passing_some 256 (waits_at (waiting o.queue) p) q (let lim = (L.limits o.queue inside.lawful q _ (inside.queued q l ∙ ap (stay N q) e)).0 in omega arith)
               (subst (λ z. At (waiting o.queue) z q) x (at_port o inside q g a l e)) in
               ap o.contested x ∙ S.contested ∙ or_right (n.contested p) _ (lt-ltb 0 _ some))
         ];

@@ -47,8 +47,8 @@ first_hop_within (x ∷ cs) zero = omega arith
 first_hop_within (x ∷ cs) (suc k) = let i = first_hop_within cs k in omega arith
 
 -- an array of one value
-pub getD_same : {X : Type 0} (n i : ℕ) (x : X) → get_or (replicate n x) i x ≡ x
-getD_same n i x = elim (cases_lt i n) [
+pub get_or_same : {X : Type 0} (n i : ℕ) (x : X) → get_or (replicate n x) i x ≡ x
+get_or_same n i x = elim (cases_lt i n) [
   | inl l ↦ get_or-replicate n i x x l
   | inr l ↦ get_or_past (replicate n x) i x (omega (arith, length-replicate n x))
 ]
@@ -57,9 +57,9 @@ getD_same n i x = elim (cases_lt i n) [
 pub ready_start : (cs : List Planned) → Ready cs 0 (replicate 256 no_record)
 ready_start cs = record {
   size = length-replicate 256 no_record;
-  outside = λ c. ap (λ x. x.condition) (getD_same 256 c no_record);
+  outside = λ c. ap (λ x. x.condition) (get_or_same 256 c no_record);
   first = λ c l. absurd (omega arith);
-  unused = λ c l. ap (λ x. x.first) (getD_same 256 c no_record);
+  unused = λ c l. ap (λ x. x.first) (get_or_same 256 c no_record);
 }
 
 -- the record of one cell more

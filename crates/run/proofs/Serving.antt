@@ -5,7 +5,7 @@ use Rattle.std.proofs.lemmas.Bool.{cases_eq, cases_lt, cases_Bool, lt-leb}
 use Rattle.refusal.proofs.Options.{none_some, some_one}
 use Rattle.refusal.specs.declared.Refusal.{Refusal}
 use Rattle.discipline.specs.Calls.{pick_test}
-use Rattle.discipline.specs.Meaning.{Waiting, At, waits_at_lem, count_at}
+use Rattle.discipline.specs.Meaning.{Waiting, At, waits_at, count_at}
 use Rattle.discipline.proofs.Counting.{passing_find, passing_few}
 use Rattle.network.specs.Networks.{Network, Hop}
 use Rattle.plan.specs.Cells.{hops_in}
@@ -62,7 +62,7 @@ module _ {D : Type 0} (waiting : D → Waiting) (choice : D → ℕ → ℕ → 
     there : At (waiting d) p c
     there =
         let a = told I.lawful in
-        let k = passing_find 256 (waits_at_lem (waiting d) p) (pass_some (waiting d) p a.0) in
+        let k = passing_find 256 (waits_at (waiting d) p) (pass_some (waiting d) p a.0) in
         let q = (L.picked d p t c e I.lawful a.0 a.1).1 in
         subst (At (waiting d) p) (sym q) (L.chosen d I.lawful p t k.0 k.2)
 

@@ -6,7 +6,7 @@ use Rattle.refusal.specs.Tests.{when, each_below}
 use Rattle.refusal.proofs.Ordered.{each_below_more, each_below_stops}
 use Rattle.refusal.specs.declared.Refusal.TheVariants.{BadChain}
 use Rattle.plan.specs.Cells.{has}
-use Rattle.layout.specs.Fields.{cell_count, hop_count, first_at_lem, next_at, port_at, sent_at}
+use Rattle.layout.specs.Fields.{cell_count, hop_count, first_at, next_at, port_at, sent_at}
 use Rattle.layout.specs.Order.{leads_on, chain_from, chain_of, reached, twice_test}
 use Rattle.schedule.specs.Chains.{Linked, Seen, Noted, Walking, Walked}
 use Rattle.schedule.specs.declared.chain.Found.{Found}
@@ -128,17 +128,17 @@ noted_more bs chain k i f g at len ports sent fits n =
     }
 
 -- the start of a walk
-pub walking_none : (bs : List ℕ) (c k i : ℕ) (flags : List Bool) (f : Found) → k ≡ 0 → i ≡ first_at_lem bs c → Linked bs → c < cell_count bs
+pub walking_none : (bs : List ℕ) (c k i : ℕ) (flags : List Bool) (f : Found) → k ≡ 0 → i ≡ first_at bs c → Linked bs → c < cell_count bs
     → length flags ≡ 2049 → Seen flags (reached bs c) → Noted bs (chain_of bs c) 0 f → Walking bs c k i flags f
 walking_none bs c k i flags f zero_is first-is linked l long s n =
     subst (λ x. Walking bs c x i flags f) (sym zero_is) (subst (λ x. Walking bs c 0 x flags f) (sym first-is) start)
   where
-    start : Walking bs c 0 (first_at_lem bs c) flags f
+    start : Walking bs c 0 (first_at bs c) flags f
     start = record {
       index = linked.first c l;
       rises = λ h. h;
       within = omega arith;
-      rest = let e : hop_count bs ≡ hop_count bs - 0 = omega arith in ap (λ n. chain_from n bs (first_at_lem bs c)) e;
+      rest = let e : hop_count bs ≡ hop_count bs - 0 = omega arith in ap (λ n. chain_from n bs (first_at bs c)) e;
       passed = refl;
       flags_long = long;
       seen = λ j m. s j m ∙ ap (λ is. has is j) (sym (append-nil (reached bs c)));

@@ -6,7 +6,7 @@ use Rattle.refusal.specs.declared.Refusal.TheVariants.{BadField, BadFlow, BadInd
 use Rattle.refusal.specs.Tests.{when, or_else, each_below}
 use Rattle.refusal.proofs.Ordered.{or_else_passes, when_passes, each_below_passes}
 use Rattle.plan.proofs.Passed.{within_parts}
-use Rattle.layout.specs.Fields.{byte, long, kind_at, port_count, cell_count, hop_count, delay_at, cell_offset, flow_at, first_at_lem, hop_offset, next_at, sent_at}
+use Rattle.layout.specs.Fields.{byte, long, kind_at, port_count, cell_count, hop_count, delay_at, cell_offset, flow_at, first_at, hop_offset, next_at, sent_at}
 use Rattle.layout.specs.Order.{load_nonzero, port_fields, cell_fields, hop_fields, leads_on, field_tests}
 use Rattle.schedule.specs.Chains.{Linked}
 
@@ -39,14 +39,14 @@ module _ (bs : List ℕ) (passed : field_tests bs ≡ None) where
     pub flow_fits : flow_at bs c ≤ 7
     flow_fits = ltb-false 7 (flow_at bs c) (when_passes _ _ (or_else_passes _ _ cell_passed).0)
 
-    index_passed : or_else (when (ltb (hop_count bs) (first_at_lem bs c)) (BadIndex (cell_offset bs c + 4))) (when (load_nonzero bs (long bs (cell_offset bs c + 6))) (BadField (cell_offset bs c + 6))) ≡ None
+    index_passed : or_else (when (ltb (hop_count bs) (first_at bs c)) (BadIndex (cell_offset bs c + 4))) (when (load_nonzero bs (long bs (cell_offset bs c + 6))) (BadField (cell_offset bs c + 6))) ≡ None
     index_passed = last_passes (when (ltb 7 (flow_at bs c)) (BadFlow c)) (when (not (eqb (byte bs (cell_offset bs c + 3)) 0)) (BadField (cell_offset bs c + 3))) _ cell_passed
 
-    pub first_fits : first_at_lem bs c ≤ hop_count bs
-    first_fits = ltb-false (hop_count bs) (first_at_lem bs c) (when_passes _ _ (or_else_passes _ _ index_passed).0)
+    pub first_fits : first_at bs c ≤ hop_count bs
+    first_fits = ltb-false (hop_count bs) (first_at bs c) (when_passes _ _ (or_else_passes _ _ index_passed).0)
 
     pub slack_zero : kind_at bs ≡ 1 → long bs (cell_offset bs c + 6) ≡ 0
-    slack_zero = load_zero bs (long bs (cell_offset bs c + 6)) (when_passes _ (BadField (cell_offset bs c + 6)) (or_else_passes (when (ltb (hop_count bs) (first_at_lem bs c)) (BadIndex (cell_offset bs c + 4))) _ index_passed).1)
+    slack_zero = load_zero bs (long bs (cell_offset bs c + 6)) (when_passes _ (BadField (cell_offset bs c + 6)) (or_else_passes (when (ltb (hop_count bs) (first_at bs c)) (BadIndex (cell_offset bs c + 4))) _ index_passed).1)
 
   module _ (i : ℕ) (some : 0 < i) (l : i ≤ hop_count bs) where
     hop_passed : hop_fields bs i ≡ None

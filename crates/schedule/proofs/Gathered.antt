@@ -8,7 +8,7 @@ use Rattle.refusal.specs.declared.Refusal.TheVariants.{BadDelay, BadFlow, PlanFu
 use Rattle.refusal.proofs.Ordered.{or_else_none, or_else_after, or_else_passes, refuses_by, each_below_stops}
 use Rattle.plan.specs.Cells.{Planned, no_cell, port_test, route_test, cell_test}
 use Rattle.layout.specs.Contents.{Marked, no_hop, kind_number}
-use Rattle.layout.specs.Fields.{kind_at, port_count, cell_count, hop_count, delay_at, entry_at, flow_at, first_at_lem, slack_at, port_at, sent_at}
+use Rattle.layout.specs.Fields.{kind_at, port_count, cell_count, hop_count, delay_at, entry_at, flow_at, first_at, slack_at, port_at, sent_at}
 use Rattle.layout.specs.Holding.{CellHeld, Chained}
 use Rattle.layout.specs.Order.{field_tests, chain_of, chain_test, twice_test}
 use Rattle.layout.specs.declared.kind.Kind.{Kind}
@@ -98,8 +98,8 @@ module _ (bs : List ℕ) (passed : field_tests bs ≡ None) (c : ℕ) (known : c
             entry = entry;
             flow = flow;
             slack = slack;
-            hops = subst (λ hs. Chained bs (first_at_lem bs c) hs) (sym hops_held)
-                (chained bs (linked bs passed) (hop_count bs) (first_at_lem bs c) (first_fits bs passed c known) (λ p. omega arith));
+            hops = subst (λ hs. Chained bs (first_at bs c) hs) (sym hops_held)
+                (chained bs (linked bs passed) (hop_count bs) (first_at bs c) (first_fits bs passed c known) (λ p. omega arith));
           }
 
       pub marked_more : (k : Kind) → kind_number k ≡ kind_at bs → SFits w32 m.slack → Marked k (scheduled x m)
@@ -112,7 +112,7 @@ module _ (bs : List ℕ) (passed : field_tests bs ≡ None) (c : ℕ) (known : c
                 let g = noted.sent j in' (omega arith) in let b = noted.fits j (omega arith) in omega arith),
             (λ e. slack ∙ ap (to_z w32) (slack_zero bs passed c known (sym kind ∙ ap kind_number e))),
             (λ e j l. let in' : j < length (chain_of bs c) = omega arith in
-                let r = in_file bs (linked bs passed) (hop_count bs) (first_at_lem bs c) (first_fits bs passed c known) j in' in
+                let r = in_file bs (linked bs passed) (hop_count bs) (first_at bs c) (first_fits bs passed c known) j in' in
                 at j in' ∙ sent_zero bs passed (get_or (chain_of bs c) j 0) r.0 r.1 (sym kind ∙ ap kind_number e)),
           )
 

@@ -3,13 +3,13 @@ use Rattle.std.specs.Prelude.{◌≡◌, ℕ, ◌-◌, ◌^◌, ◌<◌, ◌≤�
 use Rattle.refusal.specs.Tests.{each_below}
 use Rattle.refusal.specs.declared.Refusal.{Refusal}
 use Rattle.plan.specs.Cells.{has}
-use Rattle.layout.specs.Fields.{cell_count, hop_count, first_at_lem, next_at, port_at, sent_at}
+use Rattle.layout.specs.Fields.{cell_count, hop_count, first_at, next_at, port_at, sent_at}
 use Rattle.layout.specs.Order.{leads_on, chain_from, chain_of, reached, twice_test}
 use Rattle.schedule.specs.declared.chain.Found.{Found}
 
 -- no index points past the records, and every next index leads on
 pub record Linked (bs : List ℕ) : Type 0 where
-  pub first : (c : ℕ) → c < cell_count bs → first_at_lem bs c ≤ hop_count bs
+  pub first : (c : ℕ) → c < cell_count bs → first_at bs c ≤ hop_count bs
   pub next : (i : ℕ) → 0 < i → i ≤ hop_count bs → leads_on (hop_count bs) i (next_at bs i) ≡ true
 
 -- the flags tell which of the indices have been reached

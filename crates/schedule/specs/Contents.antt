@@ -24,12 +24,12 @@ length_timed (c ∷ cs) [] h = absurd (omega arith)
 length_timed (c ∷ cs) (m ∷ ms) h = ap suc (length_timed cs ms (omega arith))
 
 -- each cell is that of the plan with its marks
-pub getD_timed : (cs : List Planned) (ms : List Marks) (i : ℕ) → length cs ≡ length ms → i < length cs
+pub get_or_timed : (cs : List Planned) (ms : List Marks) (i : ℕ) → length cs ≡ length ms → i < length cs
     → slice_index_or (timed cs ms) i no_scheduled ≡ scheduled (slice_index_or cs i no_cell) (slice_index_or ms i no_marks)
-getD_timed [] ms i h l = absurd (omega arith)
-getD_timed (c ∷ cs) [] i h l = absurd (omega arith)
-getD_timed (c ∷ cs) (m ∷ ms) zero h l = refl
-getD_timed (c ∷ cs) (m ∷ ms) (suc i) h l = getD_timed cs ms i (omega arith) (omega arith)
+get_or_timed [] ms i h l = absurd (omega arith)
+get_or_timed (c ∷ cs) [] i h l = absurd (omega arith)
+get_or_timed (c ∷ cs) (m ∷ ms) zero h l = refl
+get_or_timed (c ∷ cs) (m ∷ ms) (suc i) h l = get_or_timed cs ms i (omega arith) (omega arith)
 
 -- the hops of a route with its sent slots
 pub length_hops : (ps ss : List ℕ) → length (hops_of ps ss) ≡ length ps
@@ -37,12 +37,12 @@ length_hops [] ss = refl
 length_hops (p ∷ ps) [] = ap suc (length_hops ps [])
 length_hops (p ∷ ps) (s ∷ ss) = ap suc (length_hops ps ss)
 
-pub getD_hops : (ps ss : List ℕ) (j : ℕ) → j < length ps → slice_index_or (hops_of ps ss) j no_hop ≡ record { port = slice_index ps j; sent = slice_index ss j }
-getD_hops [] ss j l = absurd (omega arith)
-getD_hops (p ∷ ps) [] zero l = refl
-getD_hops (p ∷ ps) [] (suc j) l = getD_hops ps [] j (omega arith)
-getD_hops (p ∷ ps) (s ∷ ss) zero l = refl
-getD_hops (p ∷ ps) (s ∷ ss) (suc j) l = getD_hops ps ss j (omega arith)
+pub get_or_hops : (ps ss : List ℕ) (j : ℕ) → j < length ps → slice_index_or (hops_of ps ss) j no_hop ≡ record { port = slice_index ps j; sent = slice_index ss j }
+get_or_hops [] ss j l = absurd (omega arith)
+get_or_hops (p ∷ ps) [] zero l = refl
+get_or_hops (p ∷ ps) [] (suc j) l = get_or_hops ps [] j (omega arith)
+get_or_hops (p ∷ ps) (s ∷ ss) zero l = refl
+get_or_hops (p ∷ ps) (s ∷ ss) (suc j) l = get_or_hops ps ss j (omega arith)
 
 ports_are : (ps ss : List ℕ) → map (λ h. h.port) (hops_of ps ss) ≡ ps
 ports_are [] ss = refl
@@ -79,7 +79,7 @@ held_whole bs k p ds cs ms kind pile g =
       delays = λ i l. g.ports.each i (omega arith);
       each = λ i l.
           let in' : i < length cs = omega arith in
-          subst (CellHeld bs i) (sym (getD_timed cs ms i same in')) (g.held i (omega arith));
+          subst (CellHeld bs i) (sym (get_or_timed cs ms i same in')) (g.held i (omega arith));
     }
 
 -- that a cell is marked as its kind asks has one proof at most
@@ -105,7 +105,7 @@ module _ (s : Schedule) where
             let in' : c < length (cells_of s.plan) = omega arith in
             let x = scheduled (slice_index_or (cells_of s.plan) c no_cell) (slice_index_or (vec_items s.marks) c no_marks) in
             let one : Marked s.kind x = ∥∥₁_elim s.marks_fit (marked_prop s.kind x) (λ all. all c in') in
-            subst (Marked s.kind) (sym (getD_timed _ _ c as_many in')) one;
+            subst (Marked s.kind) (sym (get_or_timed _ _ c as_many in')) one;
       }
 
   -- a cell of the content
@@ -114,7 +114,7 @@ module _ (s : Schedule) where
   cell_is i x m l e f =
       let n = as_many in
       let in' : i < length (vec_items s.marks) = omega arith in
-      getD_timed _ _ i as_many l ∙ ap (λ y. scheduled y (slice_index_or (vec_items s.marks) i no_marks)) (sym e)
+      get_or_timed _ _ i as_many l ∙ ap (λ y. scheduled y (slice_index_or (vec_items s.marks) i no_marks)) (sym e)
       ∙ ap (scheduled x) (sym (get_or_read (vec_items s.marks) i m in' f no_marks))
 
   -- and none past the last
@@ -125,7 +125,7 @@ module _ (s : Schedule) where
   pub hop_is : (i j : ℕ) (x : Planned) (m : Marks) → i < length (cells_of s.plan) → x ≡ slice_index_or (cells_of s.plan) i no_cell
       → m ≡ slice_index_or (vec_items s.marks) i m → j < length x.route
       → slice_index_or (get_or (content_of s).cells i no_scheduled).hops j no_hop ≡ record { port = slice_index x.route j; sent = slice_index m.sent j }
-  hop_is i j x m l e f k = ap (λ y. get_or y.hops j no_hop) (cell_is i x m l e f) ∙ getD_hops x.route m.sent j k
+  hop_is i j x m l e f k = ap (λ y. get_or y.hops j no_hop) (cell_is i x m l e f) ∙ get_or_hops x.route m.sent j k
 
   pub hop_past : (i j : ℕ) (x : Planned) → i < length (cells_of s.plan) → x ≡ slice_index_or (cells_of s.plan) i no_cell
       → length x.route ≤ j → slice_index_or (get_or (content_of s).cells i no_scheduled).hops j no_hop ≡ no_hop

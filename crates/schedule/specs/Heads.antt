@@ -3,7 +3,7 @@ use Rattle.std.specs.Prelude.{◌≡◌, ℕ, ◌<◌, ◌≤◌, true, false, L
 use Rattle.refusal.specs.declared.Refusal.{Refusal}
 use Rattle.refusal.specs.declared.Refusal.TheVariants.{BadField}
 use Rattle.layout.specs.Contents.{kind_number, pile_number}
-use Rattle.layout.specs.Fields.{kind_at, pile_at, port_count, cell_count, hop_count, file_length_lem}
+use Rattle.layout.specs.Fields.{kind_at, pile_at, port_count, cell_count, hop_count, file_length}
 use Rattle.layout.specs.Order.{takes, head_test}
 use Rattle.layout.specs.declared.kind.Accepts.{Accepts}
 use Rattle.layout.specs.declared.kind.Kind.{Kind}
@@ -32,7 +32,7 @@ pub record Headed (bs : List ℕ) (h : Head) : Type 0 where
   pub has_cells : 0 < h.cells
   pub few_cells : h.cells ≤ 256
   pub few_hops : h.hops ≤ 2048
-  pub whole : length bs ≡ file_length_lem h.ports h.cells h.hops
+  pub whole : length bs ≡ file_length h.ports h.cells h.hops
 
 abbrev pub HeadRead : Accepts → List ℕ → Result Head Refusal → Type 0
 HeadRead a bs (Ok h) = (head_test a bs ≡ None) × Headed bs h

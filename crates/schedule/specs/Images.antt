@@ -1,6 +1,6 @@
 -- The records of a schedule file as they lie in its bytes.
 use Rattle.std.specs.Prelude.{ℕ, ◌+◌, List}
-use Rattle.layout.specs.Fields.{byte, long, cell_offset, entry_at, flow_at, first_at_lem, hop_offset, next_at, port_at, sent_at}
+use Rattle.layout.specs.Fields.{byte, long, cell_offset, entry_at, flow_at, first_at, hop_offset, next_at, port_at, sent_at}
 use Rattle.schedule.specs.declared.raw.RawCell.{RawCell}
 use Rattle.schedule.specs.declared.raw.RawHop.{RawHop}
 
@@ -11,7 +11,7 @@ raw_cell bs c =
       entry = entry_at bs c;
       flow = flow_at bs c;
       zero = byte bs (cell_offset bs c + 3);
-      first = first_at_lem bs c;
+      first = first_at bs c;
       slack = long bs (cell_offset bs c + 6);
     }
 

@@ -4,7 +4,7 @@ mod fields;
 
 ghost use Rattle.std.specs.Prelude.{◌≡◌, ◌<◌, ◌≤◌, length};
 ghost use Rattle.layout.specs.Contents.{kind_number};
-ghost use Rattle.layout.specs.Fields.{kind_at, port_count, cell_count, hop_count, file_length_lem};
+ghost use Rattle.layout.specs.Fields.{kind_at, port_count, cell_count, hop_count, file_length};
 
 use crate::head::Head;
 
@@ -18,5 +18,5 @@ pub struct Image<'a> {
     ghost cells_read: { head.cells ≡ cell_count bytes.now },
     ghost hops_read: { head.hops ≡ hop_count bytes.now },
     ghost limits: { (head.ports ≤ 32) × (head.cells ≤ 256) × (head.hops ≤ 2048) },
-    ghost whole: { length bytes.now ≡ file_length_lem head.ports head.cells head.hops },
+    ghost whole: { length bytes.now ≡ file_length head.ports head.cells head.hops },
 }

@@ -17,11 +17,11 @@ then_second true true d h k = h
 then_second true false d h k = absurd (false≢true k)
 then_second false c d h k = absurd (false≢true h)
 
-pub leb_lawful : Lawful nat_le
-leb_lawful = record { total = λ x y h. grind (arith, nat_tests); trans = λ x y z h k. grind (arith, nat_tests) }
+pub nat_le_lawful : Lawful nat_le
+nat_le_lawful = record { total = λ x y h. grind (arith, nat_tests); trans = λ x y z h k. grind (arith, nat_tests) }
 
-pub leZ_lawful : Lawful int_le
-leZ_lawful = record { total = λ x y h. grind (arith, ints); trans = λ x y z h k. grind (arith, ints) }
+pub int_le_lawful : Lawful int_le
+int_le_lawful = record { total = λ x y h. grind (arith, ints); trans = λ x y z h k. grind (arith, ints) }
 
 pub by_lawful : {X K : Type 0} (part : X → K) (le : K → K → Bool) → Lawful le → Lawful (by part le)
 by_lawful part le o = record {
@@ -52,13 +52,13 @@ then_lawful p q o u = record {
 pub flight_lawful : Lawful flight_upto
 flight_lawful =
     then_lawful (by (λ f. f.slot) nat_le) (by (λ f. f.cell) nat_le)
-    (by_lawful (λ f. f.slot) nat_le leb_lawful)
-    (by_lawful (λ f. f.cell) nat_le leb_lawful)
+    (by_lawful (λ f. f.slot) nat_le nat_le_lawful)
+    (by_lawful (λ f. f.cell) nat_le nat_le_lawful)
 
 pub due_lawful : Lawful due_upto
 due_lawful =
     then_lawful (by (λ d. d.port) nat_le) (by (λ d. d.due) int_le then by (λ d. d.cell) nat_le)
-    (by_lawful (λ d. d.port) nat_le leb_lawful)
+    (by_lawful (λ d. d.port) nat_le nat_le_lawful)
     (then_lawful (by (λ d. d.due) int_le) (by (λ d. d.cell) nat_le)
-    (by_lawful (λ d. d.due) int_le leZ_lawful)
-    (by_lawful (λ d. d.cell) nat_le leb_lawful))
+    (by_lawful (λ d. d.due) int_le int_le_lawful)
+    (by_lawful (λ d. d.cell) nat_le nat_le_lawful))

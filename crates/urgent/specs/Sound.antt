@@ -6,7 +6,7 @@ use Rattle.std.specs.List.{ContainsAt, AllByRecursion}
 use Rattle.std.proofs.ByRecursion.{All-weaker, all-has}
 use Rattle.std.proofs.lemmas.List.{get_or-set_same, get_or-set_other, get_or_past, get_or-replicate}
 use Rattle.std.proofs.lemmas.Bool.{cases_eq, cases_lt, eq-eqb, ne_eqb, le-leb, true≢false}
-use Rattle.discipline.specs.Meaning.{Waiting, At, Same, Limits, stays_at, waits_at_lem, passing, count_at, with_cell, without_cell, MostUrgent, Before, due_of}
+use Rattle.discipline.specs.Meaning.{Waiting, At, Same, Limits, stays_at, waits_at, passing, count_at, with_cell, without_cell, MostUrgent, Before, due_of}
 use Rattle.discipline.specs.declared.stay.Stay.{Stay}
 use Rattle.refusal.proofs.Options.{none_some, some_one}
 use Rattle.discipline.proofs.Stays.{at_stay}
@@ -230,7 +230,7 @@ module _ (st : List (Option Stay)) (ct : List ℕ) (xs : List DueCell) (room : �
   pub next_told : (p : ℕ) → 0 < count_at (waiting_by st) p
       → (t : Stay) × (first_from due_upto (mark p) xs ≡ Some (due_cell (next_due xs p) t)) × (waiting_by st (next_due xs p) ≡ Some t) × (t.port ≡ p)
   next_told p some =
-      let f = passing_find 256 (waits_at_lem (waiting_by st) p) some in
+      let f = passing_find 256 (waits_at (waiting_by st) p) some in
       let s = at_stay (waiting_by st) p f.0 f.2 in
       let n = next_is p f.0 s.0 s.1 s.2 in
       let is : n.0 ≡ next_due xs p = sym (ap cell_of n.2) in

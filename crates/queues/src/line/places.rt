@@ -2,7 +2,7 @@
 ghost use Rattle.std.specs.Prelude.{◌≡◌, Some, None, MatchOption, MatchResult};
 ghost use Rattle.refusal.specs.Tests.{tested};
 ghost use Rattle.discipline.specs.Calls.{pick_test};
-ghost use Rattle.queues.specs.Entries.{waiting_in, first_at_lem, last_at_lem, Stands};
+ghost use Rattle.queues.specs.Entries.{waiting_in, first_at, last_at, Stands};
 ghost use Rattle.queues.specs.Lines.{queue};
 
 use crate::entry::Entry;
@@ -40,7 +40,7 @@ impl Line {
 
     // The place of the cell that arrived first of those that wait at a port.
     pub(crate) fn first_place(&self, port: usize) -> Result<usize, Refusal>
-        ensures { MatchResult result (λ i. (pick_test (waiting_in (queue self.now)) port ≡ None) × Stands (queue self.now) (first_at_lem (queue self.now) port) i) (λ e. pick_test (waiting_in (queue self.now)) port ≡ Some e) }
+        ensures { MatchResult result (λ i. (pick_test (waiting_in (queue self.now)) port ≡ None) × Stands (queue self.now) (first_at (queue self.now) port) i) (λ e. pick_test (waiting_in (queue self.now)) port ≡ Some e) }
     {
         self.test_pick(port)?;
         Ok(seek::first_at(self.waiting(), port))
@@ -48,7 +48,7 @@ impl Line {
 
     // The place of the cell that arrived last of those that wait at a port.
     pub(crate) fn last_place(&self, port: usize) -> Result<usize, Refusal>
-        ensures { MatchResult result (λ i. (pick_test (waiting_in (queue self.now)) port ≡ None) × Stands (queue self.now) (last_at_lem (queue self.now) port) i) (λ e. pick_test (waiting_in (queue self.now)) port ≡ Some e) }
+        ensures { MatchResult result (λ i. (pick_test (waiting_in (queue self.now)) port ≡ None) × Stands (queue self.now) (last_at (queue self.now) port) i) (λ e. pick_test (waiting_in (queue self.now)) port ≡ Some e) }
     {
         self.test_pick(port)?;
         Ok(seek::last_at(self.waiting(), port))

@@ -2,7 +2,7 @@ use Rattle.std.proofs.Common.{◌≡◌, Ok, sym, ap, ◌∙◌, arith}
 use Rattle.refusal.specs.Tests.{when}
 use Rattle.refusal.specs.declared.Refusal.TheVariants.{OutOfRange}
 use Rattle.discipline.specs.Calls.{told}
-use Rattle.discipline.specs.Meaning.{waits_at_lem, count_at}
+use Rattle.discipline.specs.Meaning.{waits_at, count_at}
 use Rattle.discipline.proofs.Counting.{passing_few}
 use Rattle.layers.specs.Halves.{joined}
 use Rattle.layers.specs.Joining.{count_joined}
@@ -17,8 +17,8 @@ returns-in-Ok-count g c s =
     let a = passed_told _ OutOfRange (count_at v p) c.in-Ok.first (c.in-Ok.ensures s.0) in
     let b = passed_told _ OutOfRange (count_at w p) c.in-Ok-count.second (c.in-Ok-count.ensures s.1) in
     let sum = count_joined v w p s.2 in
-    let few = passing_few 256 (waits_at_lem v p) in
-    let fews = passing_few 256 (waits_at_lem w p) in
+    let few = passing_few 256 (waits_at v p) in
+    let fews = passing_few 256 (waits_at w p) in
     let x = a.1 in
     let y = b.1 in
     let same : c.saturating_add.result ≡ count_at (joined v w) p = omega arith in

@@ -1,6 +1,6 @@
 use Rattle.std.proofs.Common.{◌≡◌, ◌^◌, ◌<◌, length, set, ap, ◌∙◌, arith, rules}
 use Rattle.std.proofs.lemmas.Result.{err_from_is_err_and}
-use Rattle.layout.specs.Fields.{cell_count, first_at_lem, next_at, port_at, sent_at}
+use Rattle.layout.specs.Fields.{cell_count, first_at, next_at, port_at, sent_at}
 use Rattle.layout.specs.Order.{chain_of}
 use Rattle.schedule.proofs.Chains.{walking_none, walking_more, walking_all, stops}
 use Rattle.schedule.proofs.chain.along.walk.Goals as goal
@@ -9,7 +9,7 @@ pub loop-index-init : goal.loop-index-init
 loop-index-init c =
     let bs = c.args.image.now.bytes.now in
     let n = c.none-found.ensures bs (chain_of bs c.args.cell) in
-    let first : c.from-index.result ≡ first_at_lem bs c.args.cell = search rules in
+    let first : c.from-index.result ≡ first_at bs c.args.cell = search rules in
     let known : c.args.cell < cell_count bs = search rules in
     let long : length c.args.seen.now ≡ 2049 = search rules in
     walking_none bs c.args.cell _ _ c.args.seen.now c.none-found.result n.len first c.requires.linked known long c.requires.seen n

@@ -7,7 +7,7 @@ use Rattle.refusal.specs.Tests.{tested, when}
 use Rattle.refusal.specs.declared.Refusal.{Refusal}
 use Rattle.refusal.specs.declared.Refusal.TheVariants.{NoPlace}
 use Rattle.discipline.proofs.Counting.{passing_few}
-use Rattle.discipline.specs.Meaning.{waits_at_lem}
+use Rattle.discipline.specs.Meaning.{waits_at}
 use Rattle.urgent.specs.Slack.{waiting_by}
 use Rattle.urgent.specs.Sound.{has_room, sound_add, sound_as, not_too_early}
 use Rattle.urgent.proofs.queue.LeastSlack.add.Goals as goal
@@ -29,7 +29,7 @@ returns g c ok free =
     let small : SFits w64 s.due = search rules in
     let below : s.port < 32 = c.requires.1 in
     let here = ok.counted s.port below in
-    let few = passing_few 256 (waits_at_lem (waiting_by self.stays) s.port) in
+    let few = passing_few 256 (waits_at (waiting_by self.stays) s.port) in
     let one : c.saturating_add.result ≡ get_or self.counts s.port 0 + 1 = (let e = c.saturating_add.ensures in omega arith) in (
       refl,
       (

@@ -4,7 +4,7 @@ use Rattle.std.proofs.lemmas.Bool.{le-ltb, or_from, eq-eqb}
 use Rattle.refusal.specs.Tests.{when, or_else}
 use Rattle.refusal.specs.declared.Refusal.TheVariants.{OutOfRange, NotWaiting}
 use Rattle.discipline.specs.Calls.{withdraw_test}
-use Rattle.discipline.specs.Meaning.{Waiting, stays_at, waits_at_lem}
+use Rattle.discipline.specs.Meaning.{Waiting, stays_at, waits_at}
 use Rattle.discipline.specs.declared.stay.Stay.{Stay}
 use Rattle.table.specs.Kinds.{due_upto}
 use Rattle.table.specs.Order.{taken_from}
@@ -15,7 +15,7 @@ use Rattle.urgent.proofs.queue.calls.LeastSlackDiscipline.withdraw.Goals as goal
 -- a withdrawal of a cell that waits at the port passes
 withdraw_passes : (w : Waiting) (p c : ℕ) (s : Stay) → p ≤ 31 → c ≤ 255 → w c ≡ Some s → s.port ≡ p → withdraw_test w p c ≡ None
 withdraw_passes w p c s a b h e =
-    ap (λ t. or_else (when t OutOfRange) (when (not (waits_at_lem w p c)) NotWaiting)) (or_from (ltb 31 p) (ltb 255 c) (le-ltb 31 p a) (le-ltb 255 c b))
+    ap (λ t. or_else (when t OutOfRange) (when (not (waits_at w p c)) NotWaiting)) (or_from (ltb 31 p) (ltb 255 c) (le-ltb 31 p a) (le-ltb 255 c b))
     ∙ ap (λ t. when (not t) NotWaiting) (ap (stays_at p) h ∙ eq-eqb s.port p e)
 
 pub returns : goal.returns
