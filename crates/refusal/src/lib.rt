@@ -22,7 +22,7 @@ pub enum Layer {
 }
 
 // One case for each number, and in it just what its place needs.
-#[derive(Clone, Copy, Debug)]
+#[derive(Clone, Copy, PartialEq, Eq, Debug)]
 pub enum Refusal {
     // 0: an allocation found no memory
     NoMemory,
