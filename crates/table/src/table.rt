@@ -4,7 +4,7 @@ mod places;
 ghost use Rattle.std.specs.Prelude.{◌≡◌, ◌≤◌, [], length, take, IfNone, MatchResult, OnOk};
 ghost use Rattle.refusal.specs.Tests.{tested, when};
 ghost use Rattle.refusal.specs.declared.Refusal.TheVariants.{NoPlace};
-ghost use Rattle.table.specs.Elements.{elements, full, Unchanged, RestKept};
+ghost use Rattle.table.specs.Elements.{elements, full, Unchanged, RestKept, SamePlaces};
 ghost use Rattle.table.specs.Order.{Sorted, put_in, behind_equals, first_from, taken_from, LeastFrom};
 
 use crate::order::Ordered;
@@ -55,8 +55,7 @@ impl<'a, E: Ordered + Copy> Table<'a, E> {
         ensures sorted { Sorted E.upto (elements self.old) → Sorted E.upto (elements self.new) }
         ensures stable { Sorted E.upto (elements self.old) → OnOk result (elements self.new ≡ behind_equals E.upto e (elements self.old)) }
         ensures rest { RestKept self.old self.new }
-        ensures same { self.new.places.ghost_name ≡ self.old.places.ghost_name }
-        ensures long { length self.new.places.now ≡ length self.old.places.now }
+        ensures same { SamePlaces self.old self.new }
     {
         let len = self.len();
         if len >= self.places.len() {
@@ -83,8 +82,7 @@ impl<'a, E: Ordered + Copy> Table<'a, E> {
         ensures none { IfNone result (Unchanged self.old self.new) }
         ensures sorted { Sorted E.upto (elements self.old) → Sorted E.upto (elements self.new) }
         ensures rest { RestKept self.old self.new }
-        ensures same { self.new.places.ghost_name ≡ self.old.places.ghost_name }
-        ensures long { length self.new.places.now ≡ length self.old.places.now }
+        ensures same { SamePlaces self.old self.new }
     {
         let len = self.len();
         let x = take_among(self.places, len, mark)?;

@@ -24,6 +24,5 @@ returns g c =
       sorted = put_sorted le xs ys n len all c.args.e put o;
       stable = put_stable le xs ys n len all c.args.e put o;
       rest = rest_kept xs ys (len + 1) (omega arith) c.put_among.ensures.rest;
-      same = refl {a = c.args.self.now.places.ghost_name};
-      long = long;
+      same = (refl, long);
     }

@@ -20,8 +20,7 @@ returns-in_err-x g c =
       none = rw c.from_residual.ensures (ap (take n) kept, kept);
       sorted = none_sorted le xs ys n len all m kept;
       rest = ap (drop (length (take n ys))) kept;
-      same = refl {a = c.args.self.now.places.ghost_name};
-      long = ap length kept;
+      same = (refl, ap length kept);
     }
 
 pub returns : goal.returns
@@ -42,6 +41,5 @@ returns g c =
       none = tt;
       sorted = taken_sorted le xs ys n len all m taken.1 o;
       rest = rest_kept xs ys (len - 1) (omega arith) taken.2;
-      same = refl {a = c.args.self.now.places.ghost_name};
-      long = long;
+      same = (refl, long);
     }
