@@ -8,10 +8,10 @@ ghost use Rattle.layers.specs.Scanning.{lawful_aged};
 ghost use Rattle.layers.specs.AgedLaws.{arrived_aged, picked_aged, withdrawn_aged};
 
 use crate::asks::waits_at;
-use discipline::{Discipline, holds_none};
+use discipline::{Discipline, holds_none, test_cell};
 use refusal::Refusal;
 
-// The slots are by cell, and of use where the cell waits.
+// The slots are by cell, and of use where the cell waits: an array, since nothing is allocated while a run goes on.
 #[derive(Drop)]
 pub struct Ageing<D> {
     age: u32,
@@ -51,8 +51,7 @@ impl<D: Discipline> Ageing<D> {
         requires { cell < 256 }
         ensures { D.Discipline.sound self.now.below → Noted self.now.slots (D.Discipline.waiting self.now.below) → result ≡ old (D.Discipline.waiting self.now.below) self.now.age port slot cell }
     {
-        let slots = &self.slots;
-        let waited = slot.saturating_sub(slots[cell]);
+        let waited = slot.saturating_sub(self.slots[cell]);
         waits_at(&self.below, port, cell) && waited >= self.age
     }
 
@@ -62,16 +61,9 @@ impl<D: Discipline> Ageing<D> {
         ensures held { Held result }
         ensures is { result ≡ earlier_of (λ c. slice_index self.now.slots c) held cell }
     {
-        let slots = &self.slots;
         match held {
-            Some(best) => {
-                if slots[cell] < slots[best] {
-                    Some(cell)
-                } else {
-                    Some(best)
-                }
-            }
-            None => Some(cell),
+            Some(best) if self.slots[best] <= self.slots[cell] => held,
+            _ => Some(cell),
         }
     }
 
@@ -120,34 +112,21 @@ impl<D: Discipline> Discipline for Ageing<D> {
         slot: u32,
         due: i64,
     ) -> Result<(), Refusal> {
-        if cell > 255 {
-            return Err(Refusal::OutOfRange);
-        }
-        match self.below.arrive(port, cell, flow, slot, due) {
-            Ok(()) => {
-                self.slots[cell] = slot;
-                Ok(())
-            }
-            Err(e) => Err(e),
-        }
+        test_cell(cell)?;
+        self.below.arrive(port, cell, flow, slot, due)?;
+        self.slots[cell] = slot;
+        Ok(())
     }
 
     fn pick(&mut self, port: usize, slot: u32) -> Result<usize, Refusal> {
-        match self.below.count(port) {
-            Ok(cells) => {
-                if cells == 0 {
-                    return Err(Refusal::NoneWaits);
-                }
-            }
-            Err(e) => return Err(e),
+        if self.below.count(port)? == 0 {
+            return Err(Refusal::NoneWaits);
         }
-        match self.oldest(port, slot) {
-            Some(cell) => match self.below.withdraw(port, cell) {
-                Ok(()) => Ok(cell),
-                Err(e) => Err(e),
-            },
-            None => self.below.pick(port, slot),
-        }
+        let Some(oldest) = self.oldest(port, slot) else {
+            return self.below.pick(port, slot);
+        };
+        self.below.withdraw(port, oldest)?;
+        Ok(oldest)
     }
 
     fn withdraw(&mut self, port: usize, cell: usize) -> Result<(), Refusal> {

@@ -8,20 +8,12 @@ use discipline::Discipline;
 pub(crate) fn waits<D: Discipline>(d: &D, cell: usize) -> bool
     ensures { D.Discipline.sound d.now → result ≡ is_some (D.Discipline.waiting d.now cell) }
 {
-    match d.where_is(cell) {
-        Ok(Some(_)) => true,
-        Ok(None) => false,
-        Err(_) => false,
-    }
+    matches!(d.where_is(cell), Ok(Some(_)))
 }
 
 // Whether a cell waits at a port.
 pub(crate) fn waits_at<D: Discipline>(d: &D, port: usize, cell: usize) -> bool
     ensures { D.Discipline.sound d.now → result ≡ waits_at (D.Discipline.waiting d.now) port cell }
 {
-    match d.where_is(cell) {
-        Ok(Some(place)) => place == port,
-        Ok(None) => false,
-        Err(_) => false,
-    }
+    d.where_is(cell) == Ok(Some(port))
 }

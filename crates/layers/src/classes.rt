@@ -8,7 +8,7 @@ ghost use Rattle.layers.specs.Joining.{limits_joined, lawful_joined};
 ghost use Rattle.layers.specs.JoinedLaws.{arrived_joined, picked_joined, withdrawn_joined};
 
 use crate::asks::{waits, waits_at};
-use discipline::{Discipline, holds_none};
+use discipline::{Discipline, holds_none, test_arrival};
 use refusal::Refusal;
 
 // The flows below `below` go to the first, the rest to the second.
@@ -78,13 +78,11 @@ impl<F: Discipline, S: Discipline> Discipline for Classes<F, S> {
         slot: u32,
         due: i64,
     ) -> Result<(), Refusal> {
-        if port > 31 || cell > 255 || flow > 7 {
-            return Err(Refusal::OutOfRange);
-        }
+        test_arrival(port, cell, flow)?;
         if waits(&self.first, cell) || waits(&self.second, cell) {
             return Err(Refusal::AlreadyWaits);
         }
-        if (flow as usize) < self.below {
+        if usize::from(flow) < self.below {
             self.first.arrive(port, cell, flow, slot, due)
         } else {
             self.second.arrive(port, cell, flow, slot, due)
@@ -92,16 +90,10 @@ impl<F: Discipline, S: Discipline> Discipline for Classes<F, S> {
     }
 
     fn pick(&mut self, port: usize, slot: u32) -> Result<usize, Refusal> {
-        let ahead = self.first.count(port);
-        match ahead {
-            Ok(cells) => {
-                if cells > 0 {
-                    self.first.pick(port, slot)
-                } else {
-                    self.second.pick(port, slot)
-                }
-            }
-            Err(e) => Err(e),
+        if self.first.count(port)? > 0 {
+            self.first.pick(port, slot)
+        } else {
+            self.second.pick(port, slot)
         }
     }
 
@@ -114,20 +106,15 @@ impl<F: Discipline, S: Discipline> Discipline for Classes<F, S> {
     }
 
     fn count(&self, port: usize) -> Result<usize, Refusal> {
-        match self.first.count(port) {
-            Ok(first) => match self.second.count(port) {
-                Ok(second) => Ok(first.saturating_add(second)),
-                Err(e) => Err(e),
-            },
-            Err(e) => Err(e),
-        }
+        let first = self.first.count(port)?;
+        let second = self.second.count(port)?;
+        Ok(first.saturating_add(second))
     }
 
     fn where_is(&self, cell: usize) -> Result<Option<usize>, Refusal> {
-        match self.first.where_is(cell) {
-            Ok(Some(port)) => Ok(Some(port)),
-            Ok(None) => self.second.where_is(cell),
-            Err(e) => Err(e),
+        match self.first.where_is(cell)? {
+            Some(port) => Ok(Some(port)),
+            None => self.second.where_is(cell),
         }
     }
 }

@@ -89,10 +89,7 @@ mod tests {
     }
 
     fn refused(answer: Result<(), refusal::Refusal>, number: u8) -> bool {
-        match answer {
-            Ok(()) => false,
-            Err(refusal) => refusal.number() == number,
-        }
+        answer.is_err_and(|refusal| refusal.number() == number)
     }
 
     // Ageing of 16 over classes of 4 over FIFO and LIFO, beside a list that is searched anew for every pick.

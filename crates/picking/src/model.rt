@@ -29,7 +29,7 @@ impl Model {
         flow: u8,
         slot: u32,
     ) -> Result<bool, AllocError> {
-        if self.place(cell).is_some() {
+        if self.waiters.iter().any(|w| w.cell == cell) {
             return Ok(false);
         }
         self.waiters.push(Waiter {
@@ -42,17 +42,15 @@ impl Model {
     }
 
     pub(crate) fn withdraw(&mut self, port: usize, cell: usize) -> bool {
-        match self.place(cell) {
-            Some(at) => {
-                if at < self.waiters.len() && self.waiters[at].port == port {
-                    let _ = self.waiters.remove(at);
-                    true
-                } else {
-                    false
-                }
-            }
-            None => false,
-        }
+        let Some(at) = self
+            .waiters
+            .iter()
+            .position(|w| w.cell == cell && w.port == port)
+        else {
+            return false;
+        };
+        let _ = self.waiters.remove(at);
+        true
     }
 
     pub(crate) fn pick(&mut self, port: usize, slot: u32) -> Option<usize> {
@@ -62,55 +60,19 @@ impl Model {
     }
 
     pub(crate) fn count(&self, port: usize) -> usize {
-        let mut cells = 0usize;
-        for w in self.waiters.iter() {
-            if w.port == port {
-                cells = cells.saturating_add(1);
-            }
-        }
-        cells
-    }
-
-    fn place(&self, cell: usize) -> Option<usize> {
-        for (i, w) in self.waiters.iter().enumerate() {
-            if w.cell == cell {
-                return Some(i);
-            }
-        }
-        None
+        self.waiters.iter().filter(|w| w.port == port).count()
     }
 
     // The oldest of those that have waited 16 slots; else the first of a flow below 4; else the last.
     fn choice(&self, port: usize, slot: u32) -> Option<usize> {
-        let mut old: Option<(u32, usize)> = None;
-        let mut first = None;
-        let mut last = None;
-        for w in self.waiters.iter() {
-            if w.port == port {
-                if slot.saturating_sub(w.slot) >= 16 {
-                    old = earlier(old, (w.slot, w.cell));
-                }
-                if w.flow < 4 && first == None {
-                    first = Some(w.cell);
-                }
-                last = Some(w.cell);
-            }
-        }
-        match old {
-            Some((_, cell)) => Some(cell),
-            None => if first == None { last } else { first },
-        }
-    }
-}
-
-fn earlier(a: Option<(u32, usize)>, b: (u32, usize)) -> Option<(u32, usize)> {
-    match a {
-        Some(x) => if x.0 < b.0 || (x.0 == b.0 && x.1 < b.1) {
-            Some(x)
-        } else {
-            Some(b)
-        },
-        None => Some(b),
+        let oldest = self
+            .waiters
+            .iter()
+            .filter(|w| w.port == port && slot.saturating_sub(w.slot) >= 16)
+            .min_by_key(|w| (w.slot, w.cell));
+        let first = self.waiters.iter().find(|w| w.port == port && w.flow < 4);
+        let last = self.waiters.iter().rfind(|w| w.port == port);
+        oldest.or(first).or(last).map(|w| w.cell)
     }
 }
 

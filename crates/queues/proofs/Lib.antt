@@ -1,4 +1,2 @@
 pub mod Kept
-pub mod Placed
 pub mod Seeking
-pub mod Shift

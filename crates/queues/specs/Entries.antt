@@ -1,5 +1,5 @@
 -- Waiting cells as a list of entries, in the order in which they arrived.
-use Rattle.std.specs.Prelude.{◌≡◌, ℕ, suc, ◌<◌, Bool, true, cond, not, ◌&&◌, List, [], ◌∷◌, length, ℤ, pos, is_some, Some, None, ◌==◌, nat_lt, slice_index_or}
+use Rattle.std.specs.Prelude.{◌≡◌, ℕ, suc, ◌<◌, Bool, true, cond, not, ◌&&◌, List, [], ◌∷◌, length, ℤ, pos, is_some, Some, None, ◌==◌, ◌≢◌, nat_lt, slice_index_or}
 use Rattle.discipline.specs.Meaning.{Waiting}
 use Rattle.discipline.specs.declared.stay.Stay.{Stay}
 use Rattle.queues.specs.declared.entry.Entry.{Entry}
@@ -53,3 +53,18 @@ Stands q c i = (i < length q) × ((slice_index_or q i no_entry).cell ≡ c)
 -- and it is at port p
 abbrev pub StandsAt : List Entry → ℕ → ℕ → ℕ → Type 0
 StandsAt q p c i = (i < length q) × ((slice_index_or q i no_entry).cell ≡ c) × ((slice_index_or q i no_entry).port ≡ p)
+
+-- no entry has P
+abbrev pub HasNo : (Entry → Type 0) → List Entry → Type 0
+HasNo P q = (k : ℕ) → k < length q → P (slice_index_or q k no_entry) → ⊥
+
+-- place i is the first at port p, or the last
+abbrev pub IsFirstAt : List Entry → ℕ → ℕ → Type 0
+IsFirstAt q p i =
+    (i < length q) × ((slice_index_or q i no_entry).port ≡ p)
+    × ((k : ℕ) → k < i → (slice_index_or q k no_entry).port ≢ p)
+
+abbrev pub IsLastAt : List Entry → ℕ → ℕ → Type 0
+IsLastAt q p i =
+    (i < length q) × ((slice_index_or q i no_entry).port ≡ p)
+    × ((k : ℕ) → i < k → k < length q → (slice_index_or q k no_entry).port ≢ p)

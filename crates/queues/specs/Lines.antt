@@ -1,8 +1,8 @@
 -- What a line holds.
-use Rattle.std.specs.Prelude.{List, take}
+use Rattle.std.specs.Prelude.{List}
 use Rattle.queues.specs.declared.entry.Entry.{Entry}
 use Rattle.queues.specs.declared.line.Line.{Line}
 
 -- the entries, in the order in which their cells arrived
 abbrev pub queue : Line → List Entry
-queue l = take l.len l.entries
+queue l = l.entries.items

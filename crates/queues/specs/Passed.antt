@@ -1,15 +1,16 @@
 -- What tests that pass tell.
-use Rattle.std.specs.Prelude.{◌≡◌, ℕ, ◌<◌, ◌≤◌, true, not, ◌||◌, List, is_some, None, ◌==◌, nat_lt}
+use Rattle.std.specs.Prelude.{◌≡◌, ℕ, ◌≤◌, true, not, ◌||◌, List, is_some, None, ◌==◌, nat_lt}
 use Rattle.std.proofs.Common.{ap, ◌∙◌, arith}
-use Rattle.std.proofs.lemmas.Bool.{or_from, le-ltb, eqb-false}
+use Rattle.std.proofs.lemmas.Bool.{or_from, le-ltb, ne_eqb}
 use Rattle.refusal.specs.Tests.{when, or_else}
 use Rattle.refusal.specs.declared.Refusal.TheVariants.{OutOfRange, AlreadyWaits, NoneWaits, NotWaiting}
 use Rattle.refusal.proofs.Ordered.{or_else_passes, when_passes}
 use Rattle.discipline.specs.Meaning.{Waiting, waits_at, count_at}
 use Rattle.discipline.specs.Calls.{arrive_test, pick_test, withdraw_test}
-use Rattle.queues.specs.Entries.{waiting_in, at_port, proper}
+use Rattle.queues.specs.Entries.{waiting_in, at_port, proper, StandsAt}
 use Rattle.queues.specs.declared.entry.Entry.{Entry}
 use Rattle.queues.specs.Queued.{none_waits, at_port_counts}
+use Rattle.queues.specs.Chosen.{at_port_place}
 
 -- a cell that may arrive does not wait
 pub arrives_new : (w : Waiting) (p c f : ℕ) → arrive_test w p c f ≡ None → w c ≡ None
@@ -33,11 +34,9 @@ withdraw_last w p c lp lc =
     ap (λ b. or_else (when b OutOfRange) (when (not (waits_at w p c)) NotWaiting))
     (or_from (nat_lt 31 p) (nat_lt 255 c) (le-ltb 31 p lp) (le-ltb 255 c lc))
 
--- where a pick passes, some entry is at the port
-pub pick_some : (q : List Entry) (p : ℕ) → proper q ≡ true → pick_test (waiting_in q) p ≡ None → 0 < at_port q p
-pick_some q p h t =
-    let a = or_else_passes (when (nat_lt 31 p) OutOfRange) (when (count_at (waiting_in q) p == 0) NoneWaits) t in
-    let b = when_passes (count_at (waiting_in q) p == 0) NoneWaits a.1 in
-    let ne = eqb-false (count_at (waiting_in q) p) 0 b in
-    let c = at_port_counts q p h in
-    omega arith
+-- where some entry is at the port, a pick passes
+pub pick_passes : (q : List Entry) (p c i : ℕ) → proper q ≡ true → p ≤ 31 → StandsAt q p c i → pick_test (waiting_in q) p ≡ None
+pick_passes q p c i h l s =
+    let some = at_port_place q p i s.0 s.2 in
+    pick_last (waiting_in q) p (at_port q p) l (at_port_counts q p h)
+    ∙ ap (λ b. when b NoneWaits) (ne_eqb (at_port q p) 0 (λ e. omega arith))

@@ -1,15 +1,14 @@
 // First in, first out and last in, first out: two disciplines over one line of waiting cells. docs/RULES.md has the rules.
 #![tactic(auto)]
 
+mod ends;
 mod entry;
-mod fifo;
-mod gap;
-mod lifo;
 mod line;
+mod one_ended;
 mod seek;
 
-pub use fifo::Fifo;
-pub use lifo::Lifo;
+pub use ends::{End, First, Last};
+pub use one_ended::{Fifo, Lifo, OneEnded};
 
 #[cfg(test)]
 mod tests {
@@ -28,10 +27,7 @@ mod tests {
 
     // The number of the refusal.
     fn number<T: Drop>(answer: Result<T, Refusal>) -> Option<u8> {
-        match answer {
-            Ok(_) => None,
-            Err(refusal) => Some(refusal.number()),
-        }
+        answer.err().map(|refusal| refusal.number())
     }
 
     // Refusals of every kind, after which all three cells still wait.

@@ -1,43 +1,26 @@
 // Searches among the entries of a line, from its front or from its back.
-ghost use Rattle.std.specs.Prelude.{◌≡◌, ◌<◌, None, MatchOption};
-ghost use Rattle.queues.specs.Entries.{waiting_in, at_port, first_at, last_at, Stands, StandsAt};
+ghost use Rattle.std.specs.Prelude.{◌≡◌, MatchOption};
+ghost use Rattle.queues.specs.Entries.{HasNo, IsFirstAt, IsLastAt, Stands};
 
 use crate::entry::Entry;
 
 // The place of a cell, or none.
 pub(crate) fn place_of(entries: &[Entry], cell: usize) -> Option<usize>
-    ensures { MatchOption result (waiting_in entries.now cell ≡ None) (Stands entries.now cell) }
+    ensures { MatchOption result (HasNo (λ e. e.cell ≡ cell) entries.now) (Stands entries.now cell) }
 {
-    for (i, e) in entries.iter().enumerate() {
-        if e.cell as usize == cell {
-            return Some(i);
-        }
-    }
-    None
+    entries.iter().position(|e| usize::from(e.cell) == cell)
 }
 
-// The first place at a port where some entry is.
-pub(crate) fn first_at(entries: &[Entry], port: usize) -> usize
-    requires { 0 < at_port entries.now port }
-    ensures { StandsAt entries.now port (first_at entries.now port) result }
+// The first place at a port, or none.
+pub(crate) fn first_at(entries: &[Entry], port: usize) -> Option<usize>
+    ensures { MatchOption result (HasNo (λ e. e.port ≡ port) entries.now) (IsFirstAt entries.now port) }
 {
-    for (i, e) in entries.iter().enumerate() {
-        if e.port as usize == port {
-            return i;
-        }
-    }
-    unreachable()
+    entries.iter().position(|e| usize::from(e.port) == port)
 }
 
-// The last place at a port where some entry is.
-pub(crate) fn last_at(entries: &[Entry], port: usize) -> usize
-    requires { 0 < at_port entries.now port }
-    ensures { StandsAt entries.now port (last_at entries.now port) result }
+// The last place at a port, or none.
+pub(crate) fn last_at(entries: &[Entry], port: usize) -> Option<usize>
+    ensures { MatchOption result (HasNo (λ e. e.port ≡ port) entries.now) (IsLastAt entries.now port) }
 {
-    for i in (0..entries.len()).rev() {
-        if entries[i].port as usize == port {
-            return i;
-        }
-    }
-    unreachable()
+    entries.iter().rposition(|e| usize::from(e.port) == port)
 }

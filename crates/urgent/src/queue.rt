@@ -6,7 +6,7 @@ mod moves;
 use discipline::Stay;
 
 // The cells that wait: in a store by port, due slot and number, and by number with their stays. How many wait at each
-// port is kept too.
+// port is kept too. A queue over too little memory is a value as well, with open answers, so no ghost field calls it sound.
 #[derive(Drop)]
 pub struct LeastSlack<T> {
     queue: T,

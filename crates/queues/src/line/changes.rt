@@ -4,24 +4,18 @@ ghost use Rattle.queues.specs.Entries.{waiting_in, without, no_entry};
 ghost use Rattle.queues.specs.Lines.{queue};
 
 use crate::entry::Entry;
-use crate::gap::close_at;
 use crate::line::Line;
+use arrayvec::ArrayVec;
 
 impl Line {
     // A line in which no cell waits.
+    #[tactic(auto, using(crate::proofs::Kept::none_proper, crate::proofs::Kept::none_counted))]
     pub(crate) fn new() -> Line
         ensures { queue result ≡ [] }
     {
-        let none = Entry {
-            cell: 0,
-            port: 0,
-            slot: 0,
-            due: 0,
-        };
         Line {
-            entries: [none; 256],
+            entries: ArrayVec::new(),
             counts: [0; 32],
-            len: 0,
         }
     }
 
@@ -32,10 +26,8 @@ impl Line {
         requires new { waiting_in (queue self.old) e.cell ≡ None }
         ensures { queue self.new ≡ queue self.old ++ e ∷ [] }
     {
-        let at = self.len;
-        self.entries[at] = e;
-        self.counts[e.port as usize] += 1;
-        self.len = at + 1;
+        self.entries.push(e);
+        self.counts[usize::from(e.port)] += 1;
     }
 
     // Takes out the entry at a place, and answers its cell.
@@ -44,11 +36,8 @@ impl Line {
         ensures cell { result ≡ (slice_index_or (queue self.old) at no_entry).cell }
         ensures left { queue self.new ≡ without (queue self.old) result }
     {
-        let len = self.len;
-        let e = self.entries[at];
-        close_at(&mut self.entries, len, at);
-        self.counts[e.port as usize] -= 1;
-        self.len = len - 1;
-        e.cell as usize
+        let e = self.entries.remove(at);
+        self.counts[usize::from(e.port)] -= 1;
+        usize::from(e.cell)
     }
 }

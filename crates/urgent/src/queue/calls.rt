@@ -9,7 +9,7 @@ ghost use Rattle.urgent.specs.Picks.{some_waits};
 
 use crate::queue::LeastSlack;
 use crate::store::Store;
-use discipline::{Discipline, Stay, Urgent};
+use discipline::{Discipline, Stay, Urgent, test_arrival, test_cell, test_place, test_port};
 use refusal::Refusal;
 use table::DueCell;
 
@@ -47,10 +47,8 @@ impl<T: Store> Discipline for LeastSlack<T> {
         slot: u32,
         due: i64,
     ) -> Result<(), Refusal> {
-        if port > 31 || cell > 255 || flow > 7 {
-            return Err(Refusal::OutOfRange);
-        }
-        if let Some(_) = self.stays[cell] {
+        test_arrival(port, cell, flow)?;
+        if self.stays[cell].is_some() {
             return Err(Refusal::AlreadyWaits);
         }
         self.add(cell, Stay { port, slot, due })
@@ -61,9 +59,7 @@ impl<T: Store> Discipline for LeastSlack<T> {
     }
 
     fn withdraw(&mut self, port: usize, cell: usize) -> Result<(), Refusal> {
-        if port > 31 || cell > 255 {
-            return Err(Refusal::OutOfRange);
-        }
+        test_place(port, cell)?;
         let Some(stay) = self.stay(cell) else {
             return Err(Refusal::NotWaiting);
         };
@@ -80,20 +76,13 @@ impl<T: Store> Discipline for LeastSlack<T> {
     }
 
     fn count(&self, port: usize) -> Result<usize, Refusal> {
-        if port > 31 {
-            return Err(Refusal::OutOfRange);
-        }
+        test_port(port)?;
         Ok(self.counts[port])
     }
 
     fn where_is(&self, cell: usize) -> Result<Option<usize>, Refusal> {
-        if cell > 255 {
-            return Err(Refusal::OutOfRange);
-        }
-        match self.stays[cell] {
-            Some(stay) => Ok(Some(stay.port)),
-            None => Ok(None),
-        }
+        test_cell(cell)?;
+        Ok(self.stays[cell].map(|stay| stay.port))
     }
 }
 
@@ -101,13 +90,8 @@ impl<T: Store> Urgent for LeastSlack<T> {
     ghost urgent = { λ d ok p t. most_urgent_lem _ _ _ _ ok p };
 
     fn due(&self, cell: usize) -> Result<Option<i64>, Refusal> {
-        if cell > 255 {
-            return Err(Refusal::OutOfRange);
-        }
-        match self.stays[cell] {
-            Some(stay) => Ok(Some(stay.due)),
-            None => Ok(None),
-        }
+        test_cell(cell)?;
+        Ok(self.stays[cell].map(|stay| stay.due))
     }
 
     fn most_urgent(&mut self, port: usize) -> Result<usize, Refusal> {

@@ -5,7 +5,7 @@ ghost use Rattle.urgent.specs.Queue.{waiting_in, choice_of, SoundQueue, Becomes}
 
 use crate::queue::LeastSlack;
 use crate::store::Store;
-use discipline::Stay;
+use discipline::{Stay, test_port};
 use refusal::Refusal;
 use table::DueCell;
 
@@ -30,8 +30,7 @@ impl<T: Store> LeastSlack<T> {
             cell,
         })?;
         self.stays[cell] = Some(stay);
-        let waiting = self.counts[port];
-        self.counts[port] = waiting.saturating_add(1);
+        self.counts[port] = self.counts[port].saturating_add(1);
         Ok(())
     }
 
@@ -42,8 +41,7 @@ impl<T: Store> LeastSlack<T> {
         ensures stays { self.new.stays ≡ slice_set self.old.stays cell None }
         ensures counts { self.new.counts ≡ slice_set self.old.counts port (slice_index self.old.counts port - 1) }
     {
-        let waiting = self.counts[port];
-        self.counts[port] = waiting.saturating_sub(1);
+        self.counts[port] = self.counts[port].saturating_sub(1);
         if cell < 256 {
             self.stays[cell] = None;
         }
@@ -53,9 +51,7 @@ impl<T: Store> LeastSlack<T> {
     pub(crate) fn take(&mut self, port: usize) -> Result<usize, Refusal>
         ensures { SoundQueue T.Store.cells T.Store.room self.old → Answers (pick_test (waiting_in self.old) port) self.old result self.new (λ c. (t : ℕ) → (c ≡ choice_of T.Store.cells self.old port) × Becomes T.Store.cells T.Store.room self.old c None self.new) }
     {
-        if port > 31 {
-            return Err(Refusal::OutOfRange);
-        }
+        test_port(port)?;
         if self.counts[port] == 0 {
             return Err(Refusal::NoneWaits);
         }

@@ -9,13 +9,13 @@ use Rattle.layers.specs.Joining.{count_joined}
 use Rattle.layers.specs.Limited.{passed_told}
 use Rattle.layers.proofs.classes.ClassesDiscipline.count.Goals as goal
 
-pub returns-in-Ok-count : goal.returns-in-Ok-count
-returns-in-Ok-count g c s =
+pub returns : goal.returns
+returns g c s =
     let v = g.F.Discipline.waiting c.args.self.now.first in
     let w = g.S.Discipline.waiting c.args.self.now.second in
     let p = c.args.port in
-    let a = passed_told _ OutOfRange (count_at v p) c.in-Ok.first (c.in-Ok.ensures s.0) in
-    let b = passed_told _ OutOfRange (count_at w p) c.in-Ok-count.second (c.in-Ok-count.ensures s.1) in
+    let a = passed_told _ OutOfRange (count_at v p) c.in_ok-first.first (c.in_ok-first.ensures s.0) in
+    let b = passed_told _ OutOfRange (count_at w p) c.in_ok-second.second (c.in_ok-second.ensures s.1) in
     let sum = count_joined v w p s.2 in
     let few = passing_few 256 (waits_at v p) in
     let fews = passing_few 256 (waits_at w p) in

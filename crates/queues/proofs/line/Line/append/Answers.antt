@@ -1,37 +1,26 @@
-use Rattle.std.proofs.Common.{◌≡◌, ◌<◌, ◌≤◌, length, get_or, arith, rules}
-use Rattle.queues.proofs.Kept.{count_few, room, put_is, put_proper, put_counted}
+use Rattle.std.proofs.Common.{◌≡◌, ◌≤◌, ap, ◌∙◌, length, get_or, arith, rules}
+use Rattle.queues.specs.Entries.{proper}
+use Rattle.queues.specs.Lines.{queue}
+use Rattle.queues.proofs.Kept.{count_few, room, put_proper, put_counted}
 use Rattle.queues.proofs.line.Line.append.Goals as goal
 
-pub bounds-self-at : goal.bounds-self-at
-bounds-self-at c =
+pub push-requires : goal.push-requires
+push-requires c =
     let l = c.args.self.now in
-    let long : length l.entries ≡ 256 = search rules in
-    let wide : length l.counts ≡ 32 = search rules in
-    room l long wide c.args.e c.requires.cell c.requires.port c.requires.new
+    (omega arith, room (queue l) l.counts l.each_proper l.counted c.args.e c.requires.cell c.requires.port c.requires.new)
 
 pub overflow_add-self : goal.overflow_add-self
 overflow_add-self c =
     let l = c.args.self.now in
-    let long : length l.entries ≡ 256 = search rules in
-    let wide : length l.counts ≡ 32 = search rules in
-    let small : get_or l.counts c.args.e.port 0 ≤ 256 = count_few l long wide c.args.e.port (omega arith) in
-    omega arith
+    let small : get_or l.counts c.args.e.port 0 ≤ 256 = count_few (queue l) l.counts l.each_proper l.counted c.args.e.port (omega (arith, c.requires.port)) in
+    rw c.from.ensures (omega arith)
 
 pub invariant_of-self : goal.invariant_of-self
 invariant_of-self c =
     let l = c.args.self.now in
-    let long : length l.entries ≡ 256 = search rules in
+    let e = c.args.e in
     let wide : length l.counts ≡ 32 = search rules in
-    let free : l.len < 256 = room l long wide c.args.e c.requires.cell c.requires.port c.requires.new in
     record {
-      few = omega arith;
-      each_proper = put_proper l long wide c.args.e c.requires.cell c.requires.port c.requires.new;
-      counted = put_counted l long wide c.args.e c.requires.cell c.requires.port c.requires.new;
+      each_proper = ap proper c.push.ensures.items ∙ put_proper (queue l) l.counts l.each_proper l.counted e c.requires.cell c.requires.port c.requires.new;
+      counted = rw c.from.ensures (rw c.push.ensures.items (put_counted (queue l) l.counts l.each_proper l.counted e c.requires.cell c.requires.port c.requires.new wide));
     }
-
-pub returns : goal.returns
-returns c =
-    let l = c.args.self.now in
-    let long : length l.entries ≡ 256 = search rules in
-    let wide : length l.counts ≡ 32 = search rules in
-    put_is l long wide c.args.e c.requires.cell c.requires.port c.requires.new

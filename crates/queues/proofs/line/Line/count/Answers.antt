@@ -1,4 +1,4 @@
-use Rattle.std.proofs.Common.{Ok, sym, ap, ◌∙◌}
+use Rattle.std.proofs.Common.{◌≤◌, Ok, sym, ap, ◌∙◌}
 use Rattle.std.proofs.lemmas.Bool.{le-ltb}
 use Rattle.refusal.specs.Tests.{when}
 use Rattle.refusal.specs.declared.Refusal.TheVariants.{OutOfRange}
@@ -13,5 +13,6 @@ pub returns : goal.returns
 returns c =
     let l = c.args.self.now in
     let p = c.args.port in
-    ap (λ n. Ok n) (sym (count_is l p c.if-port-gt-LAST_PORT.false))
-    ∙ sym (ap (λ b. told (when b OutOfRange) (count_at (waiting_in (queue l)) p)) (le-ltb 31 p c.if-port-gt-LAST_PORT.false))
+    let small : p ≤ 31 = c.in_ok-test_port.ensures.passed in
+    ap (λ n. Ok n) (sym (count_is (queue l) l.counts l.each_proper l.counted p small))
+    ∙ sym (ap (λ b. told (when b OutOfRange) (count_at (waiting_in (queue l)) p)) (le-ltb 31 p small))

@@ -1,71 +1,45 @@
-use Rattle.std.proofs.Common.{◌≡◌, ℕ, ◌<◌, length, get_or, sym, ap, arith, rules}
-use Rattle.std.proofs.lemmas.List.{get_or-take}
-use Rattle.queues.specs.Entries.{no_entry}
+use Rattle.std.proofs.Common.{◌≡◌, length, ap, ◌∙◌, rules}
+use Rattle.std.proofs.lemmas.List.{get_or_read}
+use Rattle.queues.specs.Entries.{no_entry, proper}
 use Rattle.queues.specs.Lines.{queue}
-use Rattle.queues.specs.declared.line.Line.{Line}
 use Rattle.queues.proofs.Kept.{gone_port, some_there, gone_is, gone_proper, gone_counted}
-use Rattle.queues.proofs.Placed.{inside}
 use Rattle.queues.proofs.line.Line.take_at.Goals as goal
 
-pub offset_bounds-self-at : goal.offset_bounds-self-at
-offset_bounds-self-at c =
+pub bounds-self-from : goal.bounds-self-from
+bounds-self-from c =
     let l = c.args.self.now in
-    let a = inside l c.args.at c.requires in
-    let f = l.few in
-    omega arith
-
-port_small : (l : Line) (at : ℕ) → length l.entries ≡ 256 → length l.counts ≡ 32 → at < length (queue l) → (get_or l.entries at no_entry).port < 32
-port_small l at long wide h = gone_port l long wide at (inside l at h)
-
-pub offset_bounds-self-e : goal.offset_bounds-self-e
-offset_bounds-self-e c =
-    let l = c.args.self.now in
-    let long : length l.entries ≡ 256 = search rules in
-    let wide : length l.counts ≡ 32 = search rules in
-    let a = port_small l c.args.at long wide c.requires in
-    omega arith
-
-pub bounds-self-e : goal.bounds-self-e
-bounds-self-e c =
-    let l = c.args.self.now in
-    let long : length l.entries ≡ 256 = search rules in
-    let wide : length l.counts ≡ 32 = search rules in
-    port_small l c.args.at long wide c.requires
+    let e = c.remove-e.result in
+    let is = get_or_read (queue l) c.args.at e c.requires c.remove-e.ensures.value no_entry in
+    rw c.from.ensures (gone_port (queue l) l.counts l.each_proper l.counted c.args.at c.requires e is)
 
 pub overflow_sub-self : goal.overflow_sub-self
 overflow_sub-self c =
     let l = c.args.self.now in
-    let long : length l.entries ≡ 256 = search rules in
-    let wide : length l.counts ≡ 32 = search rules in
-    some_there l long wide c.args.at (inside l c.args.at c.requires)
+    let e = c.remove-e.result in
+    let is = get_or_read (queue l) c.args.at e c.requires c.remove-e.ensures.value no_entry in
+    rw c.from.ensures (some_there (queue l) l.counts l.each_proper l.counted c.args.at c.requires e is)
 
-pub bounds-self-e-2 : goal.bounds-self-e-2
-bounds-self-e-2 c =
+pub bounds-self-from-2 : goal.bounds-self-from-2
+bounds-self-from-2 c =
     let l = c.args.self.now in
-    let long : length l.entries ≡ 256 = search rules in
-    let wide : length l.counts ≡ 32 = search rules in
-    port_small l c.args.at long wide c.requires
+    let e = c.remove-e.result in
+    let is = get_or_read (queue l) c.args.at e c.requires c.remove-e.ensures.value no_entry in
+    rw c.from.ensures (gone_port (queue l) l.counts l.each_proper l.counted c.args.at c.requires e is)
 
 pub invariant_of-self : goal.invariant_of-self
 invariant_of-self c =
     let l = c.args.self.now in
-    let long : length l.entries ≡ 256 = search rules in
+    let e = c.remove-e.result in
+    let is = get_or_read (queue l) c.args.at e c.requires c.remove-e.ensures.value no_entry in
     let wide : length l.counts ≡ 32 = search rules in
-    let f = l.few in
-    let in' = inside l c.args.at c.requires in
     record {
-      few = omega arith;
-      each_proper = gone_proper l long wide c.args.at in' c.close_at.new.places c.close_at.ensures;
-      counted = gone_counted l long wide c.args.at in' c.close_at.new.places c.close_at.ensures;
+      each_proper = ap proper c.remove-e.ensures.items ∙ gone_proper (queue l) l.counts l.each_proper l.counted c.args.at c.requires e is;
+      counted = rw c.from.ensures (rw c.remove-e.ensures.items (gone_counted (queue l) l.counts l.each_proper l.counted c.args.at c.requires e is wide));
     }
 
-pub returns : goal.returns
-returns c =
+pub returns-clause-left : goal.returns-clause-left
+returns-clause-left c =
     let l = c.args.self.now in
-    let long : length l.entries ≡ 256 = search rules in
-    let wide : length l.counts ≡ 32 = search rules in
-    let in' = inside l c.args.at c.requires in
-    record {
-      cell = sym (ap (λ x. x.cell) (get_or-take l.len l.entries c.args.at no_entry in'));
-      left = gone_is l long wide c.args.at in' c.close_at.new.places c.close_at.ensures;
-    }
+    let e = c.remove-e.result in
+    let is = get_or_read (queue l) c.args.at e c.requires c.remove-e.ensures.value no_entry in
+    rw c.from-2.ensures (c.remove-e.ensures.items ∙ gone_is (queue l) l.counts l.each_proper l.counted c.args.at c.requires e is)

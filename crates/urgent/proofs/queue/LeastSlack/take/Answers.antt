@@ -18,7 +18,7 @@ pick_passes w p a b =
 pub returns-in_default : goal.returns-in_default
 returns-in_default g c ok =
     let self = c.args.self.now in
-    let port : c.args.port ≤ 31 = c.if-port-gt31.false in
+    let port : c.args.port ≤ 31 = c.in_ok-test_port.ensures.passed in
     let here = ok.counted c.args.port (omega arith) in
     let some : 0 < count_at (waiting_by self.stays) c.args.port = omega arith in
     let n = next_told _ _ _ _ ok c.args.port some in
@@ -29,7 +29,7 @@ returns-in_default g c ok =
 pub returns : goal.returns
 returns g c ok =
     let self = c.args.self.now in
-    let port : c.args.port ≤ 31 = c.if-port-gt31.false in
+    let port : c.args.port ≤ 31 = c.in_ok-test_port.ensures.passed in
     let here = ok.counted c.args.port (omega arith) in
     let some : 0 < count_at (waiting_by self.stays) c.args.port = omega arith in
     let n = next_told _ _ _ _ ok c.args.port some in

@@ -27,7 +27,7 @@ returns g c ok =
     let port : s.port ≡ c.args.port = c.if-stay-port.false in
     let f = c.forget.ensures in
     let x = due_cell c.args.cell s in (
-      withdraw_passes (waiting_by self.stays) c.args.port c.args.cell s c.if-port-gt31.false c.if-cell-gt255.false waits port,
+      withdraw_passes (waiting_by self.stays) c.args.port c.args.cell s c.in_ok-test_place.ensures.passed.0 c.in_ok-test_place.ensures.passed.1 waits port,
       (
         sound_as f.stays (f.counts ∙ ap (λ k. set self.counts k (get_or self.counts k 0 - 1)) (sym port))
             (ap g.T.Store.cells f.queue ∙ c.take_first.ensures.done
