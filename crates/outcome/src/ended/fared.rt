@@ -31,6 +31,13 @@ impl<'a> Ended<'a> {
         Ok(Ended { recording, log })
     }
 
+    // How many cells there are.
+    pub fn cells(&self) -> usize
+        ensures { result ≡ length (cells_of self.now.recording.now.plan) }
+    {
+        self.recording.plan().cells()
+    }
+
     // How a cell of the plan fared.
     pub fn fared(&self, cell: usize) -> CellOutcome
         requires { cell < length (cells_of self.now.recording.now.plan) }

@@ -23,7 +23,7 @@ impl Ended<'_> {
         ensures slacks { (c : ℕ) → c < length (cells_of self.now.recording.now.plan) → slice_index_or result.items c (pos 0) ≡ held_slack (slack_left self.now.recording.now self.now.log.now c) }
     {
         let mut slacks = ArrayVec::new();
-        for cell in 0..self.recording.plan().cells() {
+        for cell in 0..self.cells() {
             slacks.push(held(self.fared(cell).slack));
         }
         slacks
