@@ -24,7 +24,7 @@ pub trait Discipline {
 
     ghost withdraws: { Self → ℕ → ℕ → Self → Type 0 };
 
-    // A cell comes to wait at a port.
+    // A cell comes to wait at a port. The numbers come one by one: so the callers of the interface hand them over.
     fn arrive(
         &mut self,
         port: usize,

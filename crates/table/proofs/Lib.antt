@@ -1,5 +1,3 @@
-mod Calls
-mod Fronts
 pub mod Laws
 mod Moves
 mod Places

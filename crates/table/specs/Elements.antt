@@ -17,3 +17,7 @@ Unchanged t u = (elements u ≡ elements t) × (u.places.now ≡ t.places.now)
 -- from t to u no place past the elements of u has changed
 abbrev pub RestKept : {X : Type 0} → Table X → Table X → Type 0
 RestKept t u = drop (length (elements u)) u.places.now ≡ drop (length (elements u)) t.places.now
+
+-- from t to u the places are the same lent memory, and as many
+abbrev pub SamePlaces : {X : Type 0} → Table X → Table X → Type 0
+SamePlaces t u = (u.places.ghost_name ≡ t.places.ghost_name) × (length u.places.now ≡ length t.places.now)

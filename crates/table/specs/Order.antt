@@ -1,5 +1,5 @@
 -- Lists in an order that is given by a test: le x y says that x is not after y.
-use Rattle.std.specs.Prelude.{◌≡◌, ℕ, suc, Bool, true, false, cond, not, List, [], ◌∷◌, ◌++◌, Some, None, filter, Option}
+use Rattle.std.specs.Prelude.{◌≡◌, Bool, true, false, cond, not, List, [], ◌∷◌, ◌++◌, Some, None, filter, Option}
 use Rattle.std.specs.List.{ContainsAt, AllByRecursion}
 
 -- of two elements one is not after the other, and not-after is transitive
@@ -16,11 +16,6 @@ Sorted le (x ∷ xs) = AllByRecursion (λ y. le x y ≡ true) xs × Sorted le xs
 abbrev pub Rising : {X : Type 0} → (X → X → Bool) → List X → Type 0
 Rising le [] = Unit {0}
 Rising le (x ∷ xs) = AllByRecursion (λ y. le y x ≡ false) xs × Rising le xs
-
--- how many elements at the front pass a test
-abbrev pub front : {X : Type 0} → (X → Bool) → List X → ℕ
-front p [] = 0
-front p (x ∷ xs) = cond (p x) (suc (front p xs)) 0
 
 -- the list with e put in, behind all at the front that are not after e
 abbrev pub put_in : {X : Type 0} → (X → X → Bool) → X → List X → List X

@@ -5,7 +5,7 @@ ghost use Rattle.table.specs.Lexical.{due_lawful};
 use crate::order::Ordered;
 
 // The slot in which a cell is due at the port where it waits. A due slot may lie before slot 0.
-#[derive(Clone, Copy)]
+#[derive(Clone, Copy, PartialEq, Eq, PartialOrd, Ord)]
 pub struct DueCell {
     pub port: usize,
     pub due: i64,
@@ -21,12 +21,6 @@ impl Ordered for DueCell {
     ghost trans = { due_lawful.trans };
 
     fn not_after(&self, other: &DueCell) -> bool {
-        if self.port != other.port {
-            self.port < other.port
-        } else if self.due != other.due {
-            self.due < other.due
-        } else {
-            self.cell <= other.cell
-        }
+        self <= other
     }
 }

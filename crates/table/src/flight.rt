@@ -5,7 +5,7 @@ ghost use Rattle.table.specs.Lexical.{flight_lawful};
 use crate::order::Ordered;
 
 // The slot in which a cell arrives: from outside, or at the end of a link.
-#[derive(Clone, Copy)]
+#[derive(Clone, Copy, PartialEq, Eq, PartialOrd, Ord)]
 pub struct Flight {
     pub slot: u32,
     pub cell: usize,
@@ -20,10 +20,6 @@ impl Ordered for Flight {
     ghost trans = { flight_lawful.trans };
 
     fn not_after(&self, other: &Flight) -> bool {
-        if self.slot != other.slot {
-            self.slot < other.slot
-        } else {
-            self.cell <= other.cell
-        }
+        self <= other
     }
 }

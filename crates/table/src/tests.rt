@@ -9,14 +9,6 @@ fn flight(slot: u32, cell: usize) -> Flight {
     Flight { slot, cell }
 }
 
-// Whether this flight was told.
-fn told(answer: Option<Flight>, slot: u32, cell: usize) -> bool {
-    match answer {
-        Some(f) => f.slot == slot && f.cell == cell,
-        None => false,
-    }
-}
-
 // An element whose order looks at the key alone.
 #[derive(Clone, Copy)]
 struct Labelled {
@@ -37,11 +29,10 @@ impl Ordered for Labelled {
 }
 
 // The label of the first element, which is taken out.
-fn label(table: &mut Table<Labelled>) -> char {
-    match table.take_first(&Labelled { key: 0, label: '-' }) {
-        Some(first) => first.label,
-        None => '-',
-    }
+fn label(table: &mut Table<Labelled>) -> Option<char> {
+    table
+        .take_first(&Labelled { key: 0, label: '-' })
+        .map(|first| first.label)
 }
 
 #[test]
@@ -49,12 +40,13 @@ fn a_full_table_refuses(rt: HostRuntime) -> Result<(), Fail> {
     let mut memory = [flight(9, 9)];
     let mut table = Table::new(&mut memory);
     table.put(flight(5, 1))?;
-    match table.put(flight(4, 3)) {
-        Ok(()) => return Err(Fail::new("no place was free")),
-        Err(refusal) => assert!(rt; refusal.number() == 21),
-    }
+    assert!(rt;
+        table
+            .put(flight(4, 3))
+            .is_err_and(|refusal| refusal.number() == 21)
+    );
     assert!(rt; table.len() == 1);
-    assert!(rt; told(table.first(&flight(0, 0)), 5, 1));
+    assert!(rt; table.first(&flight(0, 0)) == Some(flight(5, 1)));
     Ok(())
 }
 
@@ -65,9 +57,9 @@ fn equals_come_in_the_order_of_putting(rt: HostRuntime) -> Result<(), Fail> {
     table.put(Labelled { key: 7, label: 'a' })?;
     table.put(Labelled { key: 2, label: 'b' })?;
     table.put(Labelled { key: 7, label: 'c' })?;
-    assert!(rt; label(&mut table) == 'b');
-    assert!(rt; label(&mut table) == 'a');
-    assert!(rt; label(&mut table) == 'c');
+    assert!(rt; label(&mut table) == Some('b'));
+    assert!(rt; label(&mut table) == Some('a'));
+    assert!(rt; label(&mut table) == Some('c'));
     Ok(())
 }
 
@@ -75,11 +67,11 @@ fn equals_come_in_the_order_of_putting(rt: HostRuntime) -> Result<(), Fail> {
 fn a_search_begins_at_its_mark(rt: HostRuntime) -> Result<(), Fail> {
     let mut memory = [flight(4, 1), flight(6, 0)];
     let mut table = Table::resume(&mut memory, 9);
-    assert!(rt; told(table.first(&flight(4, 1)), 4, 1));
-    assert!(rt; told(table.take_first(&flight(4, 2)), 6, 0));
+    assert!(rt; table.first(&flight(4, 1)) == Some(flight(4, 1)));
+    assert!(rt; table.take_first(&flight(4, 2)) == Some(flight(6, 0)));
     assert!(rt; table.first(&flight(4, 2)).is_none());
     // the place that was freed is used again
     table.put(flight(5, 7))?;
-    assert!(rt; told(table.first(&flight(4, 2)), 5, 7));
+    assert!(rt; table.first(&flight(4, 2)) == Some(flight(5, 7)));
     Ok(())
 }
