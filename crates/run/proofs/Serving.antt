@@ -22,8 +22,7 @@ use Rattle.rules.specs.Rules.Served.{start, idle, sends}
 use Rattle.run.specs.Steps.{InSlot, Stands, SentOn, Flown, leaving, Serves, Turn, Turns}
 use Rattle.rules.specs.declared.condition.Condition.{Condition}
 use Rattle.rules.specs.declared.condition.Condition.TheVariants as is
-use Rattle.rules.specs.declared.condition.Event.TheVariants.{Sent as IsSent}
-use Rattle.rules.specs.declared.condition.Onward.TheVariants.{Link, Out}
+use Rattle.rules.specs.declared.condition.Event.TheVariants.{Forward, LetOut}
 use Rattle.rules.specs.declared.hop.HopRecord.{HopRecord}
 use Rattle.run.specs.declared.recording.Recording.{Recording}
 use Rattle.run.specs.declared.standing.Standing.{Standing}
@@ -115,19 +114,19 @@ module _ {D : Type 0} (waiting : D → Waiting) (choice : D → ℕ → ℕ → 
 
       leaving_is : leaving s t (get_or (delays_of r.plan) p 0) ≡ onward N t c h
       leaving_is =
-          ap (λ b. cond b (Link (h + 1) (t + get_or (delays_of r.plan) p 0)) Out) S.4
-          ∙ ap (λ j. cond (goes_on N c h) (Link (h + 1) (t + get_or (delays_of r.plan) j 0)) Out) (sym port_is)
+          ap (λ b. cond b (Forward (h + 1) (t + get_or (delays_of r.plan) p 0)) LetOut) S.4
+          ∙ ap (λ j. cond (goes_on N c h) (Forward (h + 1) (t + get_or (delays_of r.plan) j 0)) LetOut) (sym port_is)
 
       own : q.records ≡ set r.records c
-          (record { condition = next_condition (get_or r.records c no_record).condition (IsSent (leaving s t (get_or (delays_of r.plan) p 0))); first = (get_or r.records c no_record).first })
+          (record { condition = next_condition (get_or r.records c no_record).condition (leaving s t (get_or (delays_of r.plan) p 0)); first = (get_or r.records c no_record).first })
       own = records ∙ sent.records
 
-      becomes : (get_or q.records c no_record).condition ≡ next_condition (get_or r.records c no_record).condition (IsSent (onward N t c h))
+      becomes : (get_or q.records c no_record).condition ≡ next_condition (get_or r.records c no_record).condition (onward N t c h)
       becomes =
           let few = net.cell_few r.plan c here.cell in
           let wide = r.wide in
           ap (λ x. (get_or x c no_record).condition) own ∙ ap (λ x. x.condition) (get_or-set_same r.records c _ no_record (omega arith))
-          ∙ ap (λ o. next_condition (get_or r.records c no_record).condition (IsSent o)) leaving_is
+          ∙ ap (λ o. next_condition (get_or r.records c no_record).condition o) leaving_is
 
       place_is : s.place ≡ first_hop (cells_of r.plan) c + h
       place_is = S.5
@@ -193,10 +192,10 @@ module _ {D : Type 0} (waiting : D → Waiting) (choice : D → ℕ → ℕ → 
         idle_before = ap (pending N c) S.1.1
 
         next_pending : (b : Bool) → goes_on N c h ≡ b → pending N c (get_or q.records c no_record).condition ≡ cond b (Some (t + N.delay (N.port c h))) None
-        next_pending b g = ap (pending N c) (becomes ∙ ap (λ k. next_condition k (IsSent (onward N t c h))) S.1.1
-            ∙ ap (λ x. next_condition (is.Waiting h S.1.0) (IsSent (cond x (Link (h + 1) (t + N.delay (N.port c h))) Out))) g) ∙ by b
+        next_pending b g = ap (pending N c) (becomes ∙ ap (λ k. next_condition k (onward N t c h)) S.1.1
+            ∙ ap (λ x. next_condition (is.Waiting h S.1.0) (cond x (Forward (h + 1) (t + N.delay (N.port c h))) LetOut)) g) ∙ by b
           where
-            by : (b : Bool) → pending N c (next_condition (is.Waiting h S.1.0) (IsSent (cond b (Link (h + 1) (t + N.delay (N.port c h))) Out))) ≡ cond b (Some (t + N.delay (N.port c h))) None
+            by : (b : Bool) → pending N c (next_condition (is.Waiting h S.1.0) (cond b (Forward (h + 1) (t + N.delay (N.port c h))) LetOut)) ≡ cond b (Some (t + N.delay (N.port c h))) None
             by true = refl
             by false = refl
 

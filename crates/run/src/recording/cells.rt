@@ -17,17 +17,15 @@ impl Recording {
     {
         let planned = self.plan.cell(cell)?;
         let own = self.records[cell];
-        let Condition::Waiting { position, since: _ } = own.condition else {
+        let Condition::Waiting { position, .. } = own.condition else {
             return None;
         };
         let route = planned.route();
         let ports = route.ports();
-        if position >= ports.len() {
-            return None;
-        }
+        let port = *ports.get(position)?;
         Some(Standing {
             position,
-            port: usize::from(ports[position]),
+            port: usize::from(port),
             flow: planned.flow(),
             goes_on: position + 1 < ports.len(),
             place: own.first + position,
@@ -42,8 +40,6 @@ impl Recording {
         ensures contested { self.new.contested ≡ self.old.contested }
         ensures gone { self.new.gone ≡ self.old.gone }
     {
-        let mut own = self.records[cell];
-        own.happen(event);
-        self.records[cell] = own;
+        self.records[cell].happen(event);
     }
 }

@@ -5,7 +5,7 @@ ghost use Rattle.plan.specs.Cells.{hops_in};
 ghost use Rattle.plan.specs.Plans.{cells_of};
 ghost use Rattle.run.specs.Sealing.{SealTested, Ready, launched, Cleared, Starting};
 ghost use Rattle.run.specs.Slots.{Coherent};
-ghost use Rattle.table.specs.Elements.{elements};
+ghost use Rattle.table.specs.Elements.{elements, SamePlaces};
 
 use crate::recording::Recording;
 use discipline::{Discipline, holds_none};
@@ -34,8 +34,7 @@ fn outside(plan: &Plan) -> [CellRecord; 256]
 // Puts the flight of each cell to its entry slot into an empty table.
 fn put_flights(plan: &Plan, table: &mut Table<Flight>)
     ensures flights { elements table.old ≡ [] → length (cells_of plan.now) ≤ length table.old.places.now → elements table.new ≡ launched (cells_of plan.now) (length (cells_of plan.now)) }
-    ensures same { table.new.places.ghost_name ≡ table.old.places.ghost_name }
-    ensures long { length table.new.places.now ≡ length table.old.places.now }
+    ensures places { SamePlaces table.old table.new }
 {
     for (number, cell) in plan.all_cells().iter().enumerate() {
         let slot = u32::from(cell.entry());
@@ -57,9 +56,7 @@ fn clear(log: &mut [HopRecord], hops: usize)
     ensures { Cleared hops log.old log.new }
 {
     let end = hops.min(log.len());
-    for hop in &mut log[..end] {
-        hop.sent = None;
-    }
+    log[..end].fill(HopRecord { sent: None });
 }
 
 impl Recording {

@@ -6,9 +6,8 @@ use Rattle.table.specs.Order.{put_in}
 use Rattle.rules.specs.Conditions.{next_condition}
 use Rattle.run.specs.Offsets.{no_record}
 use Rattle.rules.specs.declared.condition.Condition.{Condition}
-use Rattle.rules.specs.declared.condition.Event.TheVariants.{Sent as IsSent}
-use Rattle.rules.specs.declared.condition.Onward.{Onward}
-use Rattle.rules.specs.declared.condition.Onward.TheVariants.{Link, Out}
+use Rattle.rules.specs.declared.condition.Event.{Event}
+use Rattle.rules.specs.declared.condition.Event.TheVariants.{Forward, LetOut}
 use Rattle.run.proofs.recording.Recording.send.Goals as goal
 
 pub returns-then-picked : goal.returns-then-picked
@@ -19,13 +18,13 @@ returns-then-picked c =
     let until : self.next + c.from.result ≡ self.next + get_or (delays_of self.plan) c.args.port 0 =
     ap (λ d. self.next + d) (c.from.ensures ∙ ap (λ l. get_or l c.args.port 0) c.delays.ensures) in
     let k : Condition = (get_or self.records c.args.picked.cell no_record).condition in
-    let next : Onward → Condition = λ o. next_condition k (IsSent o) in
+    let next : Event → Condition = λ o. next_condition k o in
     record {
       sent = record {
         same = record { plan = refl; pile = refl; next = refl; flying = refl };
         records = ap (set self.records c.args.picked.cell) (λ i. record {
-          condition = (c.forward.ensures.condition ∙ ap (λ u. next (Link (s.position + 1) u)) until
-              ∙ ap (λ b. next (cond b (Link (s.position + 1) (self.next + get_or (delays_of self.plan) c.args.port 0)) Out)) (sym on)) i;
+          condition = (c.forward.ensures.condition ∙ ap (λ u. next (Forward (s.position + 1) u)) until
+              ∙ ap (λ b. next (cond b (Forward (s.position + 1) (self.next + get_or (delays_of self.plan) c.args.port 0)) LetOut)) (sym on)) i;
           first = c.forward.ensures.first i;
         });
         contested = refl;
@@ -35,8 +34,7 @@ returns-then-picked c =
       flown = λ room. c.forward.ensures.flights room
           ∙ ap (λ u. put_in flight_upto (record { slot = u; cell = c.args.picked.cell }) (elements c.args.flights.now)) until
           ∙ ap (λ b. cond b (put_in flight_upto (record { slot = self.next + get_or (delays_of self.plan) c.args.port 0; cell = c.args.picked.cell }) (elements c.args.flights.now)) (elements c.args.flights.now)) (sym on);
-      same = c.forward.ensures.same;
-      long = c.forward.ensures.long;
+      places = c.forward.ensures.places;
     }
 
 pub returns-else-picked : goal.returns-else-picked
@@ -45,13 +43,13 @@ returns-else-picked c =
     let s = c.args.picked.standing in
     let on : s.goes_on ≡ false = c.if-picked.false in
     let k : Condition = (get_or self.records c.args.picked.cell no_record).condition in
-    let next : Onward → Condition = λ o. next_condition k (IsSent o) in
+    let next : Event → Condition = λ o. next_condition k o in
     record {
       sent = record {
         same = record { plan = refl; pile = refl; next = refl; flying = refl };
         records = ap (set self.records c.args.picked.cell) (λ i. record {
           condition = (c.let_out.ensures.condition
-              ∙ ap (λ b. next (cond b (Link (s.position + 1) (self.next + get_or (delays_of self.plan) c.args.port 0)) Out)) (sym on)) i;
+              ∙ ap (λ b. next (cond b (Forward (s.position + 1) (self.next + get_or (delays_of self.plan) c.args.port 0)) LetOut)) (sym on)) i;
           first = c.let_out.ensures.first i;
         });
         contested = refl;
@@ -60,6 +58,5 @@ returns-else-picked c =
       log = c.note.ensures;
       flown = λ room.
           ap (λ b. cond b (put_in flight_upto (record { slot = self.next + get_or (delays_of self.plan) c.args.port 0; cell = c.args.picked.cell }) (elements c.args.flights.now)) (elements c.args.flights.now)) (sym on);
-      same = refl;
-      long = refl;
+      places = (refl, refl);
     }

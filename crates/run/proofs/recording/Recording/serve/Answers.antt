@@ -20,8 +20,7 @@ returns-in_default g c = record {
   same = record { plan = refl; pile = refl; next = refl; flying = refl };
   turn = turn_idle _ _ _ _ _ (laws g) c.args.self.now c.args.log.now c.args.queue.now (elements c.args.flights.now) (length c.args.flights.now.places.now) c.args.port
       c.in_default.field-0 c.pick.new.self c.in_default.ensures;
-  named = refl;
-  long = refl;
+  places = (refl, refl);
 }
 
 pub returns-in_default-standing : goal.returns-in_default-standing
@@ -30,8 +29,7 @@ returns-in_default-standing g c = record {
   turn = λ I F A l w. absurd (
       stands_somewhere _ _ _ _ _ (laws g) c.args.self.now c.args.log.now c.args.queue.now (elements c.args.flights.now) (length c.args.flights.now.places.now) c.args.port
       c.in-Ok.cell c.pick.new.self c.in-Ok.ensures I c.in_default-standing.ensures);
-  named = refl;
-  long = refl;
+  places = (refl, refl);
 }
 
 pub invariant_of-send : goal.invariant_of-send
@@ -59,6 +57,5 @@ returns g c =
           c.in-Some.standing c.in-Some.ensures c.send.new.self c.mark.new.self sent.sent
           mark.same mark.records mark.gone mark.contested c.requires l
           F A w (elements c.send.new.flights) sent.flown c.send.new.log sent.log;
-      named = sent.same;
-      long = sent.long;
+      places = sent.places;
     }
