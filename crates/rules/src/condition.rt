@@ -2,9 +2,10 @@
 ghost use Rattle.std.specs.Prelude.{◌≡◌};
 ghost use Rattle.rules.specs.Conditions.{next_condition};
 
-#[derive(Clone, Copy)]
+#[derive(Clone, Copy, Default)]
 pub enum Condition {
     // not entered yet
+    #[default]
     Outside,
     // at a position of its route since a slot
     Waiting { position: usize, since: u32 },
@@ -25,7 +26,7 @@ pub enum Event {
 }
 
 // What a run keeps of a cell: its one condition, and where its hops begin in the hop log.
-#[derive(Clone, Copy)]
+#[derive(Clone, Copy, Default)]
 pub struct CellRecord {
     pub condition: Condition,
     pub first: usize,

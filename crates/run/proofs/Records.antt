@@ -1,6 +1,7 @@
 -- The records of the cells.
-use Rattle.std.proofs.Common.{◌≡◌, ℕ, ◌<◌, List, length, get_or, set, sym, ap, ◌∙◌, inl, inr}
-use Rattle.std.proofs.lemmas.List.{get_or-set_same, get_or-set_other}
+use Rattle.std.proofs.Common.{◌≡◌, ℕ, ◌<◌, List, length, get_or, drop, set, sym, ap, ◌∙◌, inl, inr, length-set}
+use Rattle.std.specs.List.{refill}
+use Rattle.std.proofs.lemmas.List.{get_or-set_same, get_or-set_other, take_at}
 use Rattle.std.proofs.lemmas.Bool.{cases_eq}
 use Rattle.plan.specs.Cells.{Planned}
 use Rattle.run.specs.Offsets.{no_record, Offsets}
@@ -15,3 +16,8 @@ offsets_set cs rs c r l e o k m =
           ∙ ap (λ j. (get_or rs j no_record).first) (sym q) ∙ o k m
       | inr q ↦ ap (λ x. x.first) (get_or-set_other rs c k r no_record q) ∙ o k m
     ]
+
+-- a record that was written behind the vector's slice
+pub written : (rs xs : List CellRecord) (c : ℕ) (r : CellRecord) → xs ≡ rs → refill (length rs) rs (set xs c r) ≡ set rs c r
+written rs xs c r e =
+    take_at (set xs c r) (drop (length (set xs c r)) rs) (length rs) (length-set xs c r ∙ ap length e) ∙ ap (λ ys. set ys c r) e

@@ -71,24 +71,24 @@ module _ {D : Type 0} (waiting : D → Waiting) (choice : D → ℕ → ℕ → 
         elim (cases_lt c N.cells) [ inl l ↦ l | inr l ↦ absurd (none_some s.0 (I.strangers c l) s.1) ]
 
     -- the cell that was picked waits at this port
-    waits : (h : ℕ) × (a : ℕ) × ((get_or r.records c no_record).condition ≡ is.Waiting h a) × (N.port c h ≡ p)
+    waits : (h : ℕ) × (a : ℕ) × ((get_or r.records.items c no_record).condition ≡ is.Waiting h a) × (N.port c h ≡ p)
     waits =
         let s = at_stay (waiting d) p c there in
-        let w = waits_so N c (get_or r.records c no_record).condition s.0 (sym (I.queued c known) ∙ s.1) in
+        let w = waits_so N c (get_or r.records.items c no_record).condition s.0 (sym (I.queued c known) ∙ s.1) in
         (w.0, w.1, w.2, w.3 ∙ s.2)
 
     pub stands_somewhere : Stands r c None → ⊥
     stands_somewhere n =
         let w = waits in
         let P = I.placed c known in
-        n w.0 w.1 (record { cell = known; hop = short (get_or r.records c no_record).condition w.0 w.1 w.2 P }) w.2
+        n w.0 w.1 (record { cell = known; hop = short (get_or r.records.items c no_record).condition w.0 w.1 w.2 P }) w.2
       where
         short : (k : Condition) (h a : ℕ) → k ≡ is.Waiting h a → Placed N (sent_in (cells_of r.plan) log) t c k → h < N.len c
         short k h a e P = (subst (Placed N (sent_in (cells_of r.plan) log) t c) e P).0
 
     -- the cell that was picked is sent, and its port is marked
     module _ (s : Standing) (S : Stands r c (Some s)) (q₁ q : Recording) (sent : SentOn r c s (get_or (delays_of r.plan) p 0) q₁)
-        (same : Kept q₁ q) (records : q.records ≡ q₁.records) (gone : q.gone ≡ q₁.gone)
+        (same : Kept q₁ q) (records : q.records.items ≡ q₁.records.items) (gone : q.gone ≡ q₁.gone)
         (contested : sound e → q.contested ≡ cond (ltb 0 (count_at (waiting e) p)) (set q₁.contested p true) q₁.contested)
         (port : p < length (delays_of r.plan)) (long : hops_in (cells_of r.plan) ≤ length log) where
       abbrev h : ℕ
@@ -107,8 +107,8 @@ module _ {D : Type 0} (waiting : D → Waiting) (choice : D → ℕ → ℕ → 
       port_is : N.port c h ≡ p
       port_is =
           let w = waits in
-          let a : (get_or r.records c no_record).condition ≡ is.Waiting h S.1.0 = S.1.1 in
-          let b : (get_or r.records c no_record).condition ≡ is.Waiting w.0 w.1 = w.2 in
+          let a : (get_or r.records.items c no_record).condition ≡ is.Waiting h S.1.0 = S.1.1 in
+          let b : (get_or r.records.items c no_record).condition ≡ is.Waiting w.0 w.1 = w.2 in
           let at : h ≡ w.0 = cc in
           ap (N.port c) at ∙ w.3
 
@@ -117,16 +117,16 @@ module _ {D : Type 0} (waiting : D → Waiting) (choice : D → ℕ → ℕ → 
           ap (λ b. cond b (Forward (h + 1) (t + get_or (delays_of r.plan) p 0)) LetOut) S.4
           ∙ ap (λ j. cond (goes_on N c h) (Forward (h + 1) (t + get_or (delays_of r.plan) j 0)) LetOut) (sym port_is)
 
-      own : q.records ≡ set r.records c
-          (record { condition = next_condition (get_or r.records c no_record).condition (leaving s t (get_or (delays_of r.plan) p 0)); first = (get_or r.records c no_record).first })
+      own : q.records.items ≡ set r.records.items c
+          (record { condition = next_condition (get_or r.records.items c no_record).condition (leaving s t (get_or (delays_of r.plan) p 0)); first = (get_or r.records.items c no_record).first })
       own = records ∙ sent.records
 
-      becomes : (get_or q.records c no_record).condition ≡ next_condition (get_or r.records c no_record).condition (onward N t c h)
+      becomes : (get_or q.records.items c no_record).condition ≡ next_condition (get_or r.records.items c no_record).condition (onward N t c h)
       becomes =
           let few = net.cell_few r.plan c here.cell in
-          let wide = r.wide in
-          ap (λ x. (get_or x c no_record).condition) own ∙ ap (λ x. x.condition) (get_or-set_same r.records c _ no_record (omega arith))
-          ∙ ap (λ o. next_condition (get_or r.records c no_record).condition o) leaving_is
+          let counted = r.counted in
+          ap (λ x. (get_or x c no_record).condition) own ∙ ap (λ x. x.condition) (get_or-set_same r.records.items c _ no_record (omega arith))
+          ∙ ap (λ o. next_condition (get_or r.records.items c no_record).condition o) leaving_is
 
       place_is : s.place ≡ first_hop (cells_of r.plan) c + h
       place_is = S.5
@@ -154,7 +154,7 @@ module _ {D : Type 0} (waiting : D → Waiting) (choice : D → ℕ → ℕ → 
             picked = (told I.lawful).1;
             waited = S.1.1;
             becomes = becomes;
-            others = λ k n. ap (λ x. (get_or x k no_record).condition) own ∙ ap (λ x. x.condition) (get_or-set_other r.records c k _ no_record n);
+            others = λ k n. ap (λ x. (get_or x k no_record).condition) own ∙ ap (λ x. x.condition) (get_or-set_other r.records.items c k _ no_record n);
             sent = ap (λ x. x c h) sent_same ∙ ap (λ i. (get_or log' i no_hop).sent) (sym place_is)
                 ∙ ap (λ x. x.sent) (get_or-set_same log s.place _ no_hop (let a = place_within (cells_of r.plan) c h here.cell here.hop in let b = place_is in omega arith));
             kept = λ k g on ne. ap (λ x. x k g) sent_same
@@ -186,12 +186,12 @@ module _ {D : Type 0} (waiting : D → Waiting) (choice : D → ℕ → ℕ → 
       module _ (F : Flying N (moment r log d).condition fs) (A : Ahead N (suc t) (moment r log d).condition)
           (wide : length (cells_of r.plan) ≤ room) (gs : List Flight) (flown : Flown r c s (get_or (delays_of r.plan) p 0) (leb room (length fs)) fs gs) where
         abbrev k₀ : Condition
-        k₀ = (get_or r.records c no_record).condition
+        k₀ = (get_or r.records.items c no_record).condition
 
         idle_before : pending N c k₀ ≡ None
         idle_before = ap (pending N c) S.1.1
 
-        next_pending : (b : Bool) → goes_on N c h ≡ b → pending N c (get_or q.records c no_record).condition ≡ cond b (Some (t + N.delay (N.port c h))) None
+        next_pending : (b : Bool) → goes_on N c h ≡ b → pending N c (get_or q.records.items c no_record).condition ≡ cond b (Some (t + N.delay (N.port c h))) None
         next_pending b g = ap (pending N c) (becomes ∙ ap (λ k. next_condition k (onward N t c h)) S.1.1
             ∙ ap (λ x. next_condition (is.Waiting h S.1.0) (cond x (Forward (h + 1) (t + N.delay (N.port c h))) LetOut)) g) ∙ by b
           where
@@ -220,7 +220,7 @@ module _ {D : Type 0} (waiting : D → Waiting) (choice : D → ℕ → ℕ → 
         ahead : Ahead N (suc t) (moment q log' e).condition
         ahead k u l y = elim (cases_eq k c) [
           | inl z ↦ (
-              let w : pending N c (get_or q.records c no_record).condition ≡ Some u = ap (λ j. pending N j ((moment q log' e).condition j)) (sym z) ∙ y in
+              let w : pending N c (get_or q.records.items c no_record).condition ≡ Some u = ap (λ j. pending N j ((moment q log' e).condition j)) (sym z) ∙ y in
               let far = (net.sound r.plan).apart c h here in
               elim (cases_Bool (goes_on N c h)) [
                 | inl g ↦ (let v = some_one _ u (next_pending true g) w in omega arith)

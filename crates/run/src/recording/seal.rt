@@ -8,6 +8,7 @@ ghost use Rattle.run.specs.Slots.{Coherent};
 ghost use Rattle.table.specs.Elements.{elements, SamePlaces};
 
 use crate::recording::Recording;
+use arrayvec::ArrayVec;
 use discipline::{Discipline, holds_none};
 use layout::Pile;
 use plan::Plan;
@@ -16,16 +17,16 @@ use rules::{CellRecord, Condition, HopRecord};
 use table::{Flight, Table};
 
 // A record for each cell, which is outside.
-fn outside(plan: &Plan) -> [CellRecord; 256]
-    ensures { Ready (cells_of plan.now) (length (cells_of plan.now)) result }
+fn outside(plan: &Plan) -> ArrayVec<CellRecord, 256>
+    ensures { Ready (cells_of plan.now) (length (cells_of plan.now)) result.items }
 {
-    let mut records = [CellRecord {
-        condition: Condition::Outside,
-        first: 0,
-    }; 256];
+    let mut records = ArrayVec::new();
     let mut first = 0;
-    for (number, cell) in plan.all_cells().iter().enumerate() {
-        records[number].first = first;
+    for cell in plan.all_cells() {
+        records.push(CellRecord {
+            condition: Condition::Outside,
+            first,
+        });
         first += cell.route().ports().len();
     }
     records

@@ -83,7 +83,7 @@ impl Recording {
         flights: &mut Table<Flight>,
         log: &mut [HopRecord],
     )
-        requires { (port < length (delays_of self.old.plan)) × (picked.cell < 256) }
+        requires { (port < length (delays_of self.old.plan)) × (picked.cell < length (cells_of self.old.plan)) }
         ensures sent { SentOn self.old picked.cell picked.standing (slice_index (delays_of self.old.plan) port) self.new }
         ensures log { log.new ≡ slice_set log.old picked.standing.place (record { sent = Some self.old.next }) }
         ensures flown { Flown self.old picked.cell picked.standing (slice_index (delays_of self.old.plan) port) (full flights.old) (elements flights.old) (elements flights.new) }
@@ -106,7 +106,7 @@ impl Recording {
     fn mark<D: Discipline>(&mut self, port: usize, queue: &D)
         requires { port < 32 }
         ensures same { Kept self.old self.new }
-        ensures records { self.new.records ≡ self.old.records }
+        ensures records { self.new.records.items ≡ self.old.records.items }
         ensures gone { self.new.gone ≡ self.old.gone }
         ensures contested { D.Discipline.sound queue.now → self.new.contested ≡ (if nat_lt 0 (count_at (D.Discipline.waiting queue.now) port) then slice_set self.old.contested port true else self.old.contested) }
     {

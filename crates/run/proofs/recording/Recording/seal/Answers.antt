@@ -7,7 +7,7 @@ use Rattle.run.proofs.Prepared.{get_or_same}
 use Rattle.run.proofs.Sealed.{coherent}
 use Rattle.run.proofs.recording.Recording.seal.Goals as goal
 
-starting : (r : Recording) → r.next ≡ 0 → r.gone ≡ 0 → ((c : ℕ) → (get_or r.records c no_record).condition ≡ Outside) → r.contested ≡ replicate 32 false → Starting r
+starting : (r : Recording) → r.next ≡ 0 → r.gone ≡ 0 → ((c : ℕ) → (get_or r.records.items c no_record).condition ≡ Outside) → r.contested ≡ replicate 32 false → Starting r
 starting r next gone outside calm =
     record { next = next; gone = gone; outside = outside; calm = λ p. ap (λ b. get_or b p false) calm ∙ get_or_same 32 p false }
 

@@ -8,6 +8,7 @@ use Rattle.run.specs.Offsets.{no_record}
 use Rattle.rules.specs.declared.condition.Condition.{Condition}
 use Rattle.rules.specs.declared.condition.Event.{Event}
 use Rattle.rules.specs.declared.condition.Event.TheVariants.{Forward, LetOut}
+use Rattle.run.proofs.Records.{written}
 use Rattle.run.proofs.recording.Recording.send.Goals as goal
 
 pub returns-then-picked : goal.returns-then-picked
@@ -17,15 +18,18 @@ returns-then-picked c =
     let on : s.goes_on ≡ true = c.if-picked.true in
     let until : self.next + c.from.result ≡ self.next + get_or (delays_of self.plan) c.args.port 0 =
     ap (λ d. self.next + d) (c.from.ensures ∙ ap (λ l. get_or l c.args.port 0) c.delays.ensures) in
-    let k : Condition = (get_or self.records c.args.picked.cell no_record).condition in
-    let next : Event → Condition = λ o. next_condition k o in
+    let own = c.deref_mut.ensures.value in
+    let own_first = ap (λ l. (get_or l c.args.picked.cell no_record).first) own in
+    let next : Event → Condition = next_condition (get_or self.records.items c.args.picked.cell no_record).condition in
     record {
       sent = record {
         same = record { plan = refl; pile = refl; next = refl; flying = refl };
-        records = ap (set self.records c.args.picked.cell) (λ i. record {
-          condition = (c.forward.ensures.condition ∙ ap (λ u. next (Forward (s.position + 1) u)) until
+        records = written self.records.items c.deref_mut.result.now c.args.picked.cell c.forward.new.own own ∙ ap (set self.records.items c.args.picked.cell) (λ i. record {
+          condition = (c.forward.ensures.condition
+              ∙ ap (λ l. next_condition (get_or l c.args.picked.cell no_record).condition (Forward (s.position + 1) (self.next + c.from.result))) own
+              ∙ ap (λ u. next (Forward (s.position + 1) u)) until
               ∙ ap (λ b. next (cond b (Forward (s.position + 1) (self.next + get_or (delays_of self.plan) c.args.port 0)) LetOut)) (sym on)) i;
-          first = c.forward.ensures.first i;
+          first = (c.forward.ensures.first ∙ own_first) i;
         });
         contested = refl;
         gone = λ l. omega (arith, ap {B = ℕ} (λ b. cond b 0 1) on);
@@ -42,15 +46,16 @@ returns-else-picked c =
     let self = c.args.self.now in
     let s = c.args.picked.standing in
     let on : s.goes_on ≡ false = c.if-picked.false in
-    let k : Condition = (get_or self.records c.args.picked.cell no_record).condition in
-    let next : Event → Condition = λ o. next_condition k o in
+    let own = c.deref_mut.ensures.value in
+    let own_first = ap (λ l. (get_or l c.args.picked.cell no_record).first) own in
+    let next : Event → Condition = next_condition (get_or self.records.items c.args.picked.cell no_record).condition in
     record {
       sent = record {
         same = record { plan = refl; pile = refl; next = refl; flying = refl };
-        records = ap (set self.records c.args.picked.cell) (λ i. record {
-          condition = (c.let_out.ensures.condition
+        records = written self.records.items c.deref_mut.result.now c.args.picked.cell c.let_out.new.own own ∙ ap (set self.records.items c.args.picked.cell) (λ i. record {
+          condition = (c.let_out.ensures.condition ∙ ap (λ l. next_condition (get_or l c.args.picked.cell no_record).condition LetOut) own
               ∙ ap (λ b. next (cond b (Forward (s.position + 1) (self.next + get_or (delays_of self.plan) c.args.port 0)) LetOut)) (sym on)) i;
-          first = c.let_out.ensures.first i;
+          first = (c.let_out.ensures.first ∙ own_first) i;
         });
         contested = refl;
         gone = λ l. let m = c.saturating_add-self.ensures in omega (arith, ap {B = ℕ} (λ b. cond b 0 1) on);
