@@ -53,10 +53,6 @@ get_or_same n i x = elim (cases_lt i n) [
   | inr l ↦ get_or_past (replicate n x) i x (omega (arith, length-replicate n x))
 ]
 
--- no cell has a record
-pub ready_start : (cs : List Planned) → Ready cs 0 []
-ready_start cs = record { size = refl; outside = λ c. refl; first = λ c l. absurd (omega arith) }
-
 -- the record of one cell more
 pub ready_more : (cs : List Planned) (k : ℕ) (rs : List CellRecord) (x : CellRecord) → Ready cs k rs → x.condition ≡ Outside → x.first ≡ first_hop cs k
     → Ready cs (k + 1) (rs ++ x ∷ [])

@@ -40,10 +40,7 @@ loop-cell-preserved g c = (
       c.in-Some.cell c.in-Some.ensures.taken c.enter.new.self c.enter.new.queue c.enter.ensures.arrives,
 )
 
-pub returns : goal.returns
-returns g c = record {
-  same = c.loop-cell.invariant.0;
-  enters = landed_end _ _ _ _ _ (laws g) c.args.self.now c.args.queue.now (elements c.args.flights.now) c.loop-cell.self c.loop-cell.invariant.0
-      c.loop-cell.queue (elements c.loop-cell.flights) (elements c.take_landing.new.flights) c.loop-cell.invariant.2 c.in_default.ensures.taken;
-  places = (c.in_default.ensures.places.0 ∙ c.loop-cell.invariant.1.0, c.in_default.ensures.places.1 ∙ c.loop-cell.invariant.1.1);
-}
+pub returns-clause-enters : goal.returns-clause-enters
+returns-clause-enters g c =
+    landed_end _ _ _ _ _ (laws g) c.args.self.now c.args.queue.now (elements c.args.flights.now) c.loop-cell.self c.loop-cell.invariant.0
+    c.loop-cell.queue (elements c.loop-cell.flights) (elements c.take_landing.new.flights) c.loop-cell.invariant.2 c.in_default.ensures.taken

@@ -1,12 +1,8 @@
 use Rattle.std.proofs.Common.{length, sym, refl, ap, ◌∙◌, arith}
 use Rattle.plan.specs.Plans.{cells_of}
 use Rattle.table.specs.Elements.{elements}
-use Rattle.run.specs.Sealing.{launched}
-use Rattle.run.proofs.Prepared.{cell_read, cells_read, launched_more}
+use Rattle.run.proofs.Prepared.{cell_read, launched_more}
 use Rattle.run.proofs.recording.seal.put_flights.Goals as goal
-
-pub loop-number-init : goal.loop-number-init
-loop-number-init c = ((refl, refl), λ e l. e)
 
 pub loop-number-preserved : goal.loop-number-preserved
 loop-number-preserved c =
@@ -18,11 +14,3 @@ loop-number-preserved c =
           read.0 (let long = c.loop-number.invariant.0.1 in omega arith) (c.loop-number.invariant.1 e l)
           (c.from-slot.ensures ∙ c.entry.ensures ∙ ap (λ x. x.entry) (sym read.1)) refl c.put.ensures.value c.put.ensures.done,
     )
-
-pub returns : goal.returns
-returns c = record {
-  flights = λ e l.
-      c.loop-number.invariant.1 e l
-      ∙ ap (launched (cells_of c.args.plan.now)) (cells_read c.all_cells-cell-items.result.now _ c.loop-number.number c.all_cells-cell-items.ensures c.loop-number-test.false c.loop-number.auto.number-end);
-  places = c.loop-number.invariant.0;
-}
