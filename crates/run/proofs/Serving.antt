@@ -1,5 +1,6 @@
 -- The turn of a port.
 use Rattle.std.proofs.Common.{◌≡◌, ℕ, suc, ◌+◌, ◌<◌, ◌≤◌, Bool, true, false, cond, ◌||◌, ltb, leb, List, length, get_or, set, ℤ, Some, None, sym, refl, ap, ◌∙◌, subst, inl, inr, add-one, arith}
+use Rattle.std.proofs.Math.Bool.{or-false, or-true}
 use Rattle.std.proofs.lemmas.List.{get_or-set_same, get_or-set_other}
 use Rattle.std.proofs.lemmas.Bool.{cases_eq, cases_lt, cases_Bool, lt-leb}
 use Rattle.refusal.proofs.Options.{none_some, some_one}
@@ -163,9 +164,9 @@ module _ {D : Type 0} (waiting : D → Waiting) (choice : D → ℕ → ℕ → 
                 elim ne [ inl n ↦ n y.0 | inr n ↦ n y.1 ]));
             contested = ap (λ x. get_or x p false) marked ∙ elim (cases_Bool (ltb 0 (count_at (waiting e) p))) [
               | inl y ↦ ap (λ b. get_or (cond b (set r.contested p true) r.contested) p false) y ∙ get_or-set_same r.contested p true false (omega arith)
-                  ∙ sym (or_true (get_or r.contested p false)) ∙ ap (λ b. get_or r.contested p false || b) (sym y)
+                  ∙ sym (or-true (get_or r.contested p false)) ∙ ap (λ b. get_or r.contested p false || b) (sym y)
               | inr y ↦ ap (λ b. get_or (cond b (set r.contested p true) r.contested) p false) y
-                  ∙ sym (or_false (get_or r.contested p false)) ∙ ap (λ b. get_or r.contested p false || b) (sym y)
+                  ∙ sym (or-false (get_or r.contested p false)) ∙ ap (λ b. get_or r.contested p false || b) (sym y)
             ];
             others_contested = λ k n. ap (λ x. get_or x k false) marked ∙ elim (cases_Bool (ltb 0 (count_at (waiting e) p))) [
               | inl y ↦ ap (λ b. get_or (cond b (set r.contested p true) r.contested) k false) y ∙ get_or-set_other r.contested p k true false n
@@ -173,14 +174,6 @@ module _ {D : Type 0} (waiting : D → Waiting) (choice : D → ℕ → ℕ → 
             ];
             gone = gone ∙ sent.gone few_gone ∙ ap {B = ℕ} (λ b. r.gone + cond b 0 1) S.4;
           }
-        where
-          or_true : (b : Bool) → (b || true) ≡ true
-          or_true true = refl
-          or_true false = refl
-
-          or_false : (b : Bool) → (b || false) ≡ b
-          or_false true = refl
-          or_false false = refl
 
       -- the flights after it
       module _ (F : Flying N (moment r log d).condition fs) (A : Ahead N (suc t) (moment r log d).condition)
