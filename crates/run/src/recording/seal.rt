@@ -1,5 +1,5 @@
 // How a plan becomes a recording.
-ghost use Rattle.std.specs.Prelude.{◌≡◌, ◌≤◌, [], length, take};
+ghost use Rattle.std.specs.Prelude.{◌≡◌, ◌≤◌, ◌||◌, [], length, take, nat_lt};
 ghost use Rattle.discipline.specs.Meaning.{Empty};
 ghost use Rattle.plan.specs.Cells.{hops_in};
 ghost use Rattle.plan.specs.Plans.{cells_of};
@@ -15,6 +15,13 @@ use plan::Plan;
 use refusal::Refusal;
 use rules::{CellRecord, Condition, HopRecord};
 use table::{Flight, Table};
+
+// Whether there are fewer flights than cells, or fewer records than hops.
+pub(crate) fn too_short(plan: &Plan, flights: &[Flight], log: &[HopRecord]) -> bool
+    ensures { result ≡ (nat_lt (length flights.now) (length (cells_of plan.now)) || nat_lt (length log.now) (hops_in (cells_of plan.now))) }
+{
+    flights.len() < plan.cells() || log.len() < plan.hops()
+}
 
 // A record for each cell, which is outside.
 fn outside(plan: &Plan) -> ArrayVec<CellRecord, 256>
@@ -74,7 +81,7 @@ impl Recording {
         if plan.cells() == 0 {
             return Err(Refusal::NoCells);
         }
-        if flights.len() < plan.cells() || log.len() < plan.hops() {
+        if too_short(plan, flights, log) {
             return Err(Refusal::NoPlace);
         }
         if !holds_none(queue) {

@@ -16,6 +16,7 @@ ghost use Rattle.table.specs.Elements.{elements, full, SamePlaces};
 
 use crate::picked::Picked;
 use crate::recording::Recording;
+use crate::recording::seal::too_short;
 use discipline::Discipline;
 use refusal::Refusal;
 use rules::{Event, HopRecord};
@@ -31,9 +32,8 @@ fn take_landing(flights: &mut Table<Flight>, slot: u32) -> Option<usize>
     ensures places { SamePlaces flights.old flights.new }
 {
     let mark = Flight { slot, cell: 0 };
-    let flight = flights.first(&mark).filter(|flight| flight.slot == slot)?;
-    let _ = flights.take_first(&mark);
-    Some(flight.cell)
+    flights.first(&mark).filter(|flight| flight.slot == slot)?;
+    flights.take_first(&mark).map(|flight| flight.cell)
 }
 
 // Notes in the hop log the slot in which a cell is sent.
@@ -162,7 +162,7 @@ impl Recording {
         if self.gone >= self.plan.cells() || self.next > LAST_SLOT {
             return Err(Refusal::RunEnded);
         }
-        if flights.len() < self.plan.cells() || log.len() < self.plan.hops() {
+        if too_short(&self.plan, flights, log) {
             return Err(Refusal::NoPlace);
         }
         Ok(())
