@@ -1,22 +1,19 @@
 -- A recording as the content of a schedule file.
-use Rattle.std.specs.Prelude.{◌≡◌, ℕ, ◌<◌, cond, not, List, length, get_or, ℤ, pos, negsuc, Some, None, Err, Option, Result, ◌==◌, int_le, nat_le, nat_lt, slice_index, slice_index_or}
+use Rattle.std.specs.Prelude.{◌≡◌, ℕ, ◌<◌, List, length, get_or, Some, None, Err, Option, Result, ◌==◌, slice_index, slice_index_or}
 use Rattle.std.specs.Option.{unwrap_or}
 use Rattle.refusal.specs.Tests.{when, or_else}
 use Rattle.refusal.specs.declared.Refusal.{Refusal}
-use Rattle.refusal.specs.declared.Refusal.TheVariants.{NoCells, RunNotEnded, NoPlace}
+use Rattle.refusal.specs.declared.Refusal.TheVariants.{NoCells}
 use Rattle.layout.specs.Contents.{Scheduled, Content, no_hop, no_scheduled}
 use Rattle.layout.specs.RoundTrip.{Written}
 use Rattle.layout.specs.declared.kind.Kind.TheVariants.{Recording as KindRecording}
-use Rattle.plan.specs.Cells.{no_cell, hops_in}
+use Rattle.plan.specs.Cells.{no_cell}
 use Rattle.plan.specs.Plans.{delays_of, cells_of}
 use Rattle.rules.specs.Loads.{sent_in}
 use Rattle.rules.specs.declared.hop.HopRecord.{HopRecord}
 use Rattle.run.specs.declared.recording.Recording.{Recording}
-use Rattle.outcome.specs.Outcomes.{slack_left}
-
--- the nearest slack that 32 bits hold: a slack itself, in every run that is left unaltered
-abbrev pub held_slack : ℤ → ℤ
-held_slack z = cond (int_le z (pos 2147483647)) (cond (int_le (negsuc 2147483647) z) z (negsuc 2147483647)) (pos 2147483647)
+use Rattle.outcome.specs.Ends.{ended_test}
+use Rattle.outcome.specs.Outcomes.{held_slack, slack_left}
 
 -- x is cell c of the recording: its slack is what the recording leaves it, and each hop has the slot in which it was sent
 pub record CellTold (r : Recording) (log : List HopRecord) (c : ℕ) (x : Scheduled) : Type 0 where
@@ -35,12 +32,9 @@ pub record Recorded (r : Recording) (log : List HopRecord) (x : Content) : Type 
   pub count : length x.cells ≡ length (cells_of r.plan)
   pub each : (c : ℕ) → c < length (cells_of r.plan) → CellTold r log c (slice_index_or x.cells c no_scheduled)
 
--- before every cell is gone; a hop log shorter than the hops; a plan without a cell, which no seal that is tested lets in
+-- a recording that has not ended, or whose hop log is shorter than the hops; a plan without a cell, which no seal that is tested lets in
 abbrev pub file_test : Recording → List HopRecord → Option Refusal
-file_test r log =
-    or_else (when (not (nat_le (length (cells_of r.plan)) r.gone)) RunNotEnded)
-    (or_else (when (nat_lt (length log) (hops_in (cells_of r.plan))) NoPlace)
-    (when (length (cells_of r.plan) == 0) NoCells))
+file_test r log = or_else (ended_test r log) (when (length (cells_of r.plan) == 0) NoCells)
 
 -- the first test that fails refuses and leaves the output as it was; else the canonical file of the recording is written
 abbrev pub Filed : Option Refusal → Recording → List HopRecord → List ℕ → Result ℕ Refusal → List ℕ → Type 0

@@ -1,5 +1,5 @@
 -- How each cell of a recording fared.
-use Rattle.std.specs.Prelude.{ℕ, ◌-◌, not, List, length, ℤ, pos, ◌-ℤ◌, Option, nat_le, nat_lt, slice_index_or}
+use Rattle.std.specs.Prelude.{ℕ, ◌-◌, cond, not, List, length, ℤ, pos, negsuc, ◌-ℤ◌, Option, int_le, nat_le, nat_lt, slice_index_or}
 use Rattle.std.specs.Option.{unwrap_or}
 use Rattle.refusal.specs.Tests.{when, or_else}
 use Rattle.refusal.specs.declared.Refusal.{Refusal}
@@ -20,6 +20,10 @@ abbrev pub slack_left : Recording → List HopRecord → ℕ → ℤ
 slack_left r log c =
     pos (exit_slot r log c) -ℤ pos (slice_index_or (cells_of r.plan) c no_cell).entry
     -ℤ pos (travel (delays_of r.plan) (slice_index_or (cells_of r.plan) c no_cell).route)
+
+-- the nearest slack that 32 bits hold: a slack itself, in every run that is left unaltered
+abbrev pub held_slack : ℤ → ℤ
+held_slack z = cond (int_le z (pos 2147483647)) (cond (int_le (negsuc 2147483647) z) z (negsuc 2147483647)) (pos 2147483647)
 
 abbrev pub outcome_of : Recording → List HopRecord → ℕ → CellOutcome
 outcome_of r log c = record { entry = (slice_index_or (cells_of r.plan) c no_cell).entry; exit = exit_slot r log c; slack = slack_left r log c }

@@ -1,8 +1,9 @@
 // How a cell fared.
-ghost use Rattle.std.specs.Prelude.{◌≡◌, pos, ◌-ℤ◌};
+ghost use Rattle.std.specs.Prelude.{◌≡◌};
 ghost use Rattle.discipline.specs.Calls.{told};
 ghost use Rattle.outcome.specs.Outcomes.{outcome_test, outcome_of};
 
+use crate::ended::Ended;
 use refusal::Refusal;
 use rules::HopRecord;
 use run::Recording;
@@ -16,13 +17,6 @@ pub struct CellOutcome {
     pub slack: i64,
 }
 
-// What is left of an exit slot after the entry slot and the travel.
-fn left_over(exit: u32, entry: u16, travel: u32) -> i64
-    ensures { result ≡ pos exit -ℤ pos entry -ℤ pos travel }
-{
-    i64::from(exit) - i64::from(entry) - i64::from(travel)
-}
-
 // How a cell fared in a recording that has ended.
 pub fn outcome(
     recording: &Recording,
@@ -34,17 +28,8 @@ pub fn outcome(
     if !recording.ended() {
         return Err(Refusal::RunNotEnded);
     }
-    let plan = recording.plan();
-    let Some(planned) = plan.cell(cell) else {
+    if cell >= recording.plan().cells() {
         return Err(Refusal::UnknownItem);
-    };
-    let last = planned.route().ports().len() - 1;
-    let exit = recording.sent(log, cell, last)?.unwrap_or(0);
-    let entry = planned.entry();
-    let travel = plan.least_travel(cell).unwrap_or(0);
-    Ok(CellOutcome {
-        entry,
-        exit,
-        slack: left_over(exit, entry, travel),
-    })
+    }
+    Ok(Ended::new(recording, log)?.fared(cell))
 }

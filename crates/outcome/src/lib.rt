@@ -2,7 +2,9 @@
 #![tactic(auto)]
 
 mod cell;
+mod ended;
 mod file;
 
 pub use cell::{CellOutcome, outcome};
+pub use ended::Ended;
 pub use file::write;

@@ -12,10 +12,7 @@ use table::Flight;
 
 // The number of a refusal, or none.
 fn number<T: Drop>(answer: Result<T, Refusal>) -> Option<u8> {
-    match answer {
-        Ok(_) => None,
-        Err(refusal) => Some(refusal.number()),
-    }
+    answer.err().map(|refusal| refusal.number())
 }
 
 #[test]

@@ -30,37 +30,41 @@ pub(crate) fn planned(heap: Global, delays: &[u16], cells: &[Load]) -> Result<Pl
 }
 
 // What came of a recording of at most 8 cells: how many calls of `slot` it took, each cell's exit and slots waited, and
-// which of the first 4 ports were contested.
+// whether each port was contested.
 #[derive(Drop)]
 pub(crate) struct Told {
     pub(crate) next: u32,
-    pub(crate) exits: [u32; 8],
-    pub(crate) waited: [i64; 8],
-    pub(crate) contested: [bool; 4],
+    pub(crate) exits: Vec<u32>,
+    pub(crate) waited: Vec<i64>,
+    pub(crate) contested: Vec<bool>,
 }
 
-// Records a plan to its end.
-pub(crate) fn record_all<D: Discipline>(plan: Plan, queue: &mut D) -> Result<Told, Refusal> {
+// Records a plan of ports with these delays and of these cells to its end.
+pub(crate) fn record_all<D: Discipline>(
+    heap: Global,
+    delays: &[u16],
+    cells: &[Load],
+    queue: &mut D,
+) -> Result<Told, Refusal> {
+    let plan = planned(heap, delays, cells)?;
     let mut flights = [Flight { slot: 0, cell: 0 }; 8];
     let mut log = [HopRecord { sent: None }; 24];
     Recording::test_seal(&plan, &flights, &log, queue)?;
     let mut recording = Recording::seal(plan, Pile::Fifo, &mut flights, &mut log, queue);
     recording.slots(1000, &mut flights, &mut log, queue);
-    let mut exits = [0; 8];
-    let mut waited = [0; 8];
-    for cell in 0..recording.gone().min(8) {
-        let fared = outcome(&recording, &log, cell)?;
-        exits[cell] = fared.exit;
-        waited[cell] = fared.slack;
-    }
-    let mut contested = [false; 4];
-    for port in 0..recording.plan().ports().min(4) {
-        contested[port] = recording.contested(port)?;
-    }
-    Ok(Told {
+    let mut told = Told {
         next: recording.next_slot(),
-        exits,
-        waited,
-        contested,
-    })
+        exits: Vec::new(heap),
+        waited: Vec::new(heap),
+        contested: Vec::new(heap),
+    };
+    for cell in 0..recording.gone() {
+        let fared = outcome(&recording, &log, cell)?;
+        told.exits.push(fared.exit)?;
+        told.waited.push(fared.slack)?;
+    }
+    for port in 0..recording.plan().ports() {
+        told.contested.push(recording.contested(port)?)?;
+    }
+    Ok(told)
 }

@@ -35,7 +35,6 @@ const HOPS: usize = 2_048;
 #[derive(Drop)]
 struct Recorded {
     file: Vec<u8>,
-    length: usize,
     text: String,
 }
 
@@ -59,14 +58,17 @@ fn record<D: Discipline>(
     let mut recording = Recording::seal(plan, pile, &mut flights, &mut log, queue);
     recording.slots(CALLS, &mut flights, &mut log, queue);
     let length = write(&recording, &log, &mut file)?;
+    file.truncate(length);
     let text = summary(heap, &recording, &log)?;
-    Ok(Recorded { file, length, text })
+    Ok(Recorded { file, text })
 }
 
-// Records a load under the queue discipline that it names.
-fn record_load(heap: Global, load: Schedule) -> Result<Recorded, Refusal> {
+// Records the load in a file under the queue discipline that it names.
+fn record_load(heap: Global, bytes: &[u8]) -> Result<Recorded, Refusal> {
+    let load = Schedule::read_load(heap, bytes)?;
     let pile = load.pile();
     let plan = load.into_plan();
+    // a run is generic over its discipline, and each pile has one of its own type
     match pile {
         Pile::Fifo => record(heap, plan, pile, &mut Fifo::new()),
         Pile::Lifo => record(heap, plan, pile, &mut Lifo::new()),
@@ -79,15 +81,10 @@ fn record_load(heap: Global, load: Schedule) -> Result<Recorded, Refusal> {
 
 fn replay(rt: &HostRuntime) -> anyhow::Result<()> {
     let bytes = read_input(rt)?;
-    let recorded = match Schedule::read_load(rt.alloc(), bytes.as_slice()) {
-        Ok(load) => record_load(rt.alloc(), load),
-        Err(refusal) => Err(refusal),
-    };
-    match recorded {
-        Ok(recorded) => {
-            let end = recorded.length.min(recorded.file.len());
-            fs::write(rt, "recorded.sch", &recorded.file.as_slice()[0..end])?;
-            rt.print(recorded.text.as_str())?;
+    match record_load(rt.alloc(), bytes.as_slice()) {
+        Ok(Recorded { file, text }) => {
+            fs::write(rt, "recorded.sch", file.as_slice())?;
+            rt.print(text.as_str())?;
         }
         Err(Refusal::NoMemory) => return Err(anyhow!("no memory")),
         Err(refusal) => println!(rt; "{refusal}")?,

@@ -1,5 +1,6 @@
 -- The flights after a cell has landed, and after one more has left.
 use Rattle.std.proofs.Common.{◌≡◌, ℕ, ◌<◌, ◌≤◌, Bool, true, false, ◌||◌, eqb, leb, List, length, is_some, Some, None, sym, refl, ap, ◌∙◌, subst, inl, inr, arith}
+use Rattle.std.proofs.Math.Bool.{or-false}
 use Rattle.std.specs.List.{ContainsAt}
 use Rattle.std.proofs.ByRecursion.{All-weaker}
 use Rattle.std.proofs.lemmas.Bool.{cases_eq, leb-true, le-leb, eq-eqb, ne_eqb, or_right}
@@ -90,13 +91,9 @@ module _ (N : Network) (f g : ℕ → Condition) (fs : List Flight) (F : Flying 
         let a = passing_few N.cells (λ j. flies f j || eqb j c) in
         let b = passing_more N.cells (flies f) (λ j. flies f j || eqb j c) c l (ap is_some was)
         (or_right _ _ (eq-eqb c c refl))
-        (λ j n. ap (λ b. flies f j || b) (ne_eqb j c n) ∙ or_false (flies f j)) in
+        (λ j n. ap (λ b. flies f j || b) (ne_eqb j c n) ∙ or-false (flies f j)) in
         let d = F.size in
         omega arith
-      where
-        or_false : (b : Bool) → (b || false) ≡ b
-        or_false true = refl
-        or_false false = refl
 
     -- cell c has left, and lands in slot u
     pub flying_more : (u : ℕ) → pending N c (g c) ≡ Some u → Flying N g (put_in flight_upto (record { slot = u; cell = c }) fs)

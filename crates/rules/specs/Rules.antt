@@ -5,18 +5,17 @@ use Rattle.network.specs.Networks.{Network, Hop}
 use Rattle.rules.specs.Conditions.{next_condition}
 use Rattle.rules.specs.Moments.{Moment, pending}
 use Rattle.rules.specs.declared.condition.Condition.TheVariants.{Waiting}
-use Rattle.rules.specs.declared.condition.Onward.{Onward}
-use Rattle.rules.specs.declared.condition.Onward.TheVariants.{Link, Out}
-use Rattle.rules.specs.declared.condition.Event.TheVariants.{Arrive, Sent as IsSent}
+use Rattle.rules.specs.declared.condition.Event.{Event}
+use Rattle.rules.specs.declared.condition.Event.TheVariants.{Arrive, Forward, LetOut}
 
 -- whether position h is the last of cell c
 abbrev pub goes_on : Network → ℕ → ℕ → Bool
 goes_on N c h = nat_lt (h + 1) (N.len c)
 
--- where cell c goes when it is sent from position h in slot t: onto the link to the next position, until the slot that the delay of
--- the sending port says, or out
-abbrev pub onward : Network → ℕ → ℕ → ℕ → Onward
-onward N t c h = cond (goes_on N c h) (Link (h + 1) (t + N.delay (N.port c h))) Out
+-- what happens to cell c when it is sent from position h in slot t: it goes onto the link to the next position, until the slot that
+-- the delay of the sending port says, or out
+abbrev pub onward : Network → ℕ → ℕ → ℕ → Event
+onward N t c h = cond (goes_on N c h) (Forward (h + 1) (t + N.delay (N.port c h))) LetOut
 
 -- g is f but for what it has at c
 abbrev pub But : {X : Type 0} → (ℕ → X) → (ℕ → X) → ℕ → Type 0
@@ -48,7 +47,7 @@ module _ (N : Network) (flow : ℕ → ℕ) (t : ℕ) {D : Type 0} (waiting : D 
     pub there : At (waiting m.queue) p c
     pub picked : picks m.queue p t c n.queue
     pub waited : m.condition c ≡ Waiting position since
-    pub becomes : n.condition c ≡ next_condition (m.condition c) (IsSent (onward N t c position))
+    pub becomes : n.condition c ≡ next_condition (m.condition c) (onward N t c position)
     pub others : But m.condition n.condition c
     pub sent : n.sent c position ≡ Some t
     pub kept : (k h : ℕ) → Hop N k h → ((k ≢ c) ⊎ (h ≢ position)) → n.sent k h ≡ m.sent k h

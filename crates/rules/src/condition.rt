@@ -2,9 +2,10 @@
 ghost use Rattle.std.specs.Prelude.{◌≡◌};
 ghost use Rattle.rules.specs.Conditions.{next_condition};
 
-#[derive(Clone, Copy)]
+#[derive(Clone, Copy, Default)]
 pub enum Condition {
     // not entered yet
+    #[default]
     Outside,
     // at a position of its route since a slot
     Waiting { position: usize, since: u32 },
@@ -14,25 +15,18 @@ pub enum Condition {
     Gone,
 }
 
-// Where a cell goes when it is sent.
-#[derive(Clone, Copy)]
-pub enum Onward {
-    // onto the link to a position of its route, where it arrives in slot `until`
-    Link { position: usize, until: u32 },
-    // out of the network
-    Out,
-}
-
 #[derive(Clone, Copy)]
 pub enum Event {
     // the cell enters, or comes to the end of its link, in a slot
     Arrive { slot: u32 },
-    // the cell is sent
-    Sent { onward: Onward },
+    // the cell is sent onto the link to a position of its route, where it arrives in slot `until`
+    Forward { position: usize, until: u32 },
+    // the cell is sent out of the network
+    LetOut,
 }
 
 // What a run keeps of a cell: its one condition, and where its hops begin in the hop log.
-#[derive(Clone, Copy)]
+#[derive(Clone, Copy, Default)]
 pub struct CellRecord {
     pub condition: Condition,
     pub first: usize,
@@ -45,37 +39,20 @@ impl CellRecord {
         ensures condition { self.new.condition ≡ next_condition self.old.condition event }
         ensures first { self.new.first ≡ self.old.first }
     {
-        match (&mut self.condition, event) {
-            (Condition::Outside, Event::Arrive { slot }) => {
-                self.condition = Condition::Waiting {
-                    position: 0,
-                    since: slot,
-                };
+        self.condition = match (self.condition, event) {
+            (Condition::Outside, Event::Arrive { slot }) => Condition::Waiting {
+                position: 0,
+                since: slot,
+            },
+            (Condition::OnLink { position, .. }, Event::Arrive { slot }) => Condition::Waiting {
+                position,
+                since: slot,
+            },
+            (Condition::Waiting { .. }, Event::Forward { position, until }) => {
+                Condition::OnLink { position, until }
             }
-            (Condition::OnLink { position, .. }, Event::Arrive { slot }) => {
-                let position = *position;
-                self.condition = Condition::Waiting {
-                    position,
-                    since: slot,
-                };
-            }
-            (
-                Condition::Waiting { .. },
-                Event::Sent {
-                    onward: Onward::Link { position, until },
-                },
-            ) => {
-                self.condition = Condition::OnLink { position, until };
-            }
-            (
-                Condition::Waiting { .. },
-                Event::Sent {
-                    onward: Onward::Out,
-                },
-            ) => {
-                self.condition = Condition::Gone;
-            }
-            _ => {}
-        }
+            (Condition::Waiting { .. }, Event::LetOut) => Condition::Gone,
+            (condition, _) => condition,
+        };
     }
 }

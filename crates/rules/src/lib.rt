@@ -5,5 +5,5 @@
 mod condition;
 mod hop;
 
-pub use condition::{CellRecord, Condition, Event, Onward};
+pub use condition::{CellRecord, Condition, Event};
 pub use hop::HopRecord;

@@ -1,5 +1,6 @@
 -- When a run has ended, and by when it does.
 use Rattle.std.proofs.Common.{◌≡◌, ℕ, zero, suc, ◌+◌, ◌-◌, ◌*◌, ◌<◌, ◌≤◌, Bool, true, false, cond, ◌||◌, eqb, ltb, leb, List, [], ◌∷◌, length, get_or, Some, None, unwrap_or, sym, refl, ap, ◌∙◌, inl, inr, mul-le-mul_right, arith}
+use Rattle.std.proofs.Math.Bool.{or-false}
 use Rattle.std.proofs.lemmas.Bool.{cases_Bool, eq-eqb, ne_eqb, le-leb, leb-true, ltb-true, or_cases, or_left, or_right, false≢true}
 use Rattle.discipline.specs.Meaning.{Waiting, passing}
 use Rattle.discipline.proofs.Counting.{passing_few, passing_more}
@@ -34,14 +35,10 @@ passing_all n f h k l = elim (cases_Bool (f k)) [
   | inl y ↦ y
   | inr y ↦ absurd (
       let g : ℕ → Bool = λ j. f j || eqb j k in
-      let a = passing_more n f g k l y (or_right (f k) (eqb k k) (eq-eqb k k refl)) (λ j ne. ap (λ b. f j || b) (ne_eqb j k ne) ∙ or_false (f j)) in
+      let a = passing_more n f g k l y (or_right (f k) (eqb k k) (eq-eqb k k refl)) (λ j ne. ap (λ b. f j || b) (ne_eqb j k ne) ∙ or-false (f j)) in
       let b = passing_few n g in
       omega arith)
 ]
-  where
-    or_false : (b : Bool) → (b || false) ≡ b
-    or_false true = refl
-    or_false false = refl
 
 all_passing : (n : ℕ) (f : ℕ → Bool) → ((k : ℕ) → k < n → f k ≡ true) → passing n f ≡ n
 unfolding passing

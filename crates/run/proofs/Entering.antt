@@ -51,21 +51,21 @@ accepted test d e Step (Err r) p h = absurd (none_some r p h.0)
 module _ {D : Type 0} (waiting : D → Waiting) (sound : D → Type 0)
     (arrives : D → ℕ → ℕ → ℕ → ℕ → ℤ → D → Type 0) (picks : D → ℕ → ℕ → ℕ → D → Type 0)
     (r q : Recording) (c : ℕ) (l : c < length (cells_of r.plan)) (same : Kept r q)
-    (records : q.records ≡ set r.records c (record { condition = next_condition (get_or r.records c no_record).condition (Arrive r.next); first = (get_or r.records c no_record).first }))
+    (records : q.records.items ≡ set r.records.items c (record { condition = next_condition (get_or r.records.items c no_record).condition (Arrive r.next); first = (get_or r.records.items c no_record).first }))
     (contested : q.contested ≡ r.contested) (gone : q.gone ≡ r.gone)
     (log : List HopRecord) (d : D) (I : InSlot waiting sound r log d)
     (pends : pending (network_of r) c ((moment r log d).condition c) ≡ Some r.next) where
   abbrev k : Condition
-  k = (get_or r.records c no_record).condition
+  k = (get_or r.records.items c no_record).condition
 
   abbrev to : (h : ℕ) × (next_condition k (Arrive r.next) ≡ is.Waiting h r.next) × (h < (network_of r).len c) × (stay (network_of r) c k ≡ None)
   to = lands (network_of r) (sent_in (cells_of r.plan) log) r.next c k (net.sound r.plan) l (I.placed c l) pends
 
-  here : (get_or q.records c no_record).condition ≡ next_condition k (Arrive r.next)
+  here : (get_or q.records.items c no_record).condition ≡ next_condition k (Arrive r.next)
   here =
       let few = net.cell_few r.plan c l in
-      let wide = r.wide in
-      ap (λ x. (get_or x c no_record).condition) records ∙ ap (λ x. x.condition) (get_or-set_same r.records c _ no_record (omega arith))
+      let counted = r.counted in
+      ap (λ x. (get_or x c no_record).condition) records ∙ ap (λ x. x.condition) (get_or-set_same r.records.items c _ no_record (omega arith))
 
   -- it stands at a hop
   pub stands_somewhere : Stands q c None → ⊥
@@ -77,8 +77,8 @@ module _ {D : Type 0} (waiting : D → Waiting) (sound : D → Type 0)
       → (sound d → Answers (arrive_test (waiting d) s.port c s.flow) d a e (λ _. arrives d s.port c s.flow r.next (pos 0) e))
       → Arrives (network_of r) (flows r) r.next waiting arrives picks c (moment r log d) (moment q log e)
   arrives_so s S a e told =
-      let W : (get_or q.records c no_record).condition ≡ is.Waiting s.position S.1.0 = S.1.1 in
-      let V : (get_or q.records c no_record).condition ≡ is.Waiting to.0 r.next = here ∙ to.1 in
+      let W : (get_or q.records.items c no_record).condition ≡ is.Waiting s.position S.1.0 = S.1.1 in
+      let V : (get_or q.records.items c no_record).condition ≡ is.Waiting to.0 r.next = here ∙ to.1 in
       let at : s.position ≡ to.0 = cc in
       let port : s.port ≡ (network_of r).port c to.0 = S.2 ∙ ap (λ p. (network (delays_of p) (cells_of p)).port c s.position) same.plan ∙ ap ((network_of r).port c) at in
       let flow : s.flow ≡ flows r c = S.3 ∙ ap (λ p. flow_of (cells_of p) c) same.plan in
@@ -90,7 +90,7 @@ module _ {D : Type 0} (waiting : D → Waiting) (sound : D → Type 0)
         position = to.0;
         becomes = here;
         waits = V;
-        others = λ j n. ap (λ x. (get_or x j no_record).condition) records ∙ ap (λ x. x.condition) (get_or-set_other r.records c j _ no_record n);
+        others = λ j n. ap (λ x. (get_or x j no_record).condition) records ∙ ap (λ x. x.condition) (get_or-set_other r.records.items c j _ no_record n);
         told = subst (λ x. arrives d x c (flows r c) r.next (pos 0) e) port (subst (λ x. arrives d s.port c x r.next (pos 0) e) flow step);
         sent = ap (λ p. sent_in (cells_of p) log) same.plan;
         contested = ap (λ x. λ p. get_or x p false) contested;

@@ -1,7 +1,7 @@
 -- The records, the flights and the hop log that a seal prepares.
-use Rattle.std.proofs.Common.{◌≡◌, ℕ, zero, suc, ◌+◌, ◌-◌, ◌<◌, ◌≤◌, min, Bool, true, false, leb, List, [], ◌∷◌, ◌++◌, map, length, get_or, take, drop, set, replicate, Result, sym, refl, ap, ◌∙◌, subst, inl, inr, add-one, arith, length-append, length-drop, length-set, length-take, MatchResult}
+use Rattle.std.proofs.Common.{◌≡◌, ℕ, zero, suc, ◌+◌, ◌-◌, ◌<◌, ◌≤◌, min, Bool, true, false, leb, List, [], ◌∷◌, ◌++◌, map, length, get_or, take, drop, replicate, Result, sym, refl, ap, ◌∙◌, subst, inl, inr, add-one, arith, length-append, length-drop, length-take, MatchResult}
 use lib.ListN.{length-replicate, get_or-replicate}
-use Rattle.std.proofs.lemmas.List.{get_or-map, get_or_past, get_or-drop, get_or-set_same, get_or-set_other, get_or_append_left, get_or-append_right, length-map}
+use Rattle.std.proofs.lemmas.List.{get_or-map, get_or_past, get_or-drop, get_or_append_left, get_or-append_right, get_or_push, length-map}
 use Rattle.std.proofs.lemmas.Bool.{cases_eq, cases_lt, lt-leb}
 use Rattle.refusal.specs.Tests.{when, tested}
 use Rattle.refusal.specs.declared.Refusal.{Refusal}
@@ -53,33 +53,26 @@ get_or_same n i x = elim (cases_lt i n) [
   | inr l ↦ get_or_past (replicate n x) i x (omega (arith, length-replicate n x))
 ]
 
--- no record is in use
-pub ready_start : (cs : List Planned) → Ready cs 0 (replicate 256 no_record)
-ready_start cs = record {
-  size = length-replicate 256 no_record;
-  outside = λ c. ap (λ x. x.condition) (get_or_same 256 c no_record);
-  first = λ c l. absurd (omega arith);
-  unused = λ c l. ap (λ x. x.first) (get_or_same 256 c no_record);
-}
-
 -- the record of one cell more
-pub ready_more : (cs : List Planned) (k : ℕ) (rs : List CellRecord) (x : CellRecord) → Ready cs k rs → k < 256 → x.condition ≡ Outside → x.first ≡ first_hop cs k
-    → Ready cs (k + 1) (set rs k x)
-ready_more cs k rs x R l out at =
-    let wide = R.size in
-    let here : get_or (set rs k x) k no_record ≡ x = get_or-set_same rs k x no_record (omega arith) in
-    let there : (c : ℕ) → (c ≡ k → ⊥) → get_or (set rs k x) c no_record ≡ get_or rs c no_record = λ c n. get_or-set_other rs k c x no_record n in
+pub ready_more : (cs : List Planned) (k : ℕ) (rs : List CellRecord) (x : CellRecord) → Ready cs k rs → x.condition ≡ Outside → x.first ≡ first_hop cs k
+    → Ready cs (k + 1) (rs ++ x ∷ [])
+ready_more cs k rs x R out at =
+    let size = R.size in
+    let here : get_or (rs ++ x ∷ []) k no_record ≡ x = get_or_push rs x no_record k size in
+    let there : (c : ℕ) → c < k → get_or (rs ++ x ∷ []) c no_record ≡ get_or rs c no_record = λ c l. get_or_append_left rs (x ∷ []) no_record c (omega arith) in
     record {
-      size = length-set rs k x ∙ wide;
-      outside = λ c. elim (cases_eq c k) [
-        | inl q ↦ ap (λ j. (get_or (set rs k x) j no_record).condition) q ∙ ap (λ y. y.condition) here ∙ out
-        | inr q ↦ ap (λ y. y.condition) (there c q) ∙ R.outside c
+      size = omega (arith, length-append rs (x ∷ []));
+      outside = λ c. elim (cases_lt c k) [
+        | inl l ↦ ap (λ y. y.condition) (there c l) ∙ R.outside c
+        | inr m ↦ elim (cases_eq c k) [
+          | inl q ↦ ap (λ j. (get_or (rs ++ x ∷ []) j no_record).condition) q ∙ ap (λ y. y.condition) here ∙ out
+          | inr n ↦ ap (λ y. y.condition) (get_or_past (rs ++ x ∷ []) c no_record (omega (arith, length-append rs (x ∷ []))))
+        ]
       ];
       first = λ c m. elim (cases_eq c k) [
-        | inl q ↦ ap (λ j. (get_or (set rs k x) j no_record).first) q ∙ ap (λ y. y.first) here ∙ at ∙ ap (first_hop cs) (sym q)
-        | inr q ↦ ap (λ y. y.first) (there c q) ∙ R.first c (omega arith)
+        | inl q ↦ ap (λ j. (get_or (rs ++ x ∷ []) j no_record).first) q ∙ ap (λ y. y.first) here ∙ at ∙ ap (first_hop cs) (sym q)
+        | inr q ↦ ap (λ y. y.first) (there c (omega arith)) ∙ R.first c (omega arith)
       ];
-      unused = λ c m. ap (λ y. y.first) (there c (λ q. omega arith)) ∙ R.unused c (omega arith);
     }
 
 pub length_launched : (cs : List Planned) (k : ℕ) → length (launched cs k) ≡ k

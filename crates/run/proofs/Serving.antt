@@ -1,5 +1,6 @@
 -- The turn of a port.
 use Rattle.std.proofs.Common.{◌≡◌, ℕ, suc, ◌+◌, ◌<◌, ◌≤◌, Bool, true, false, cond, ◌||◌, ltb, leb, List, length, get_or, set, ℤ, Some, None, sym, refl, ap, ◌∙◌, subst, inl, inr, add-one, arith}
+use Rattle.std.proofs.Math.Bool.{or-false, or-true}
 use Rattle.std.proofs.lemmas.List.{get_or-set_same, get_or-set_other}
 use Rattle.std.proofs.lemmas.Bool.{cases_eq, cases_lt, cases_Bool, lt-leb}
 use Rattle.refusal.proofs.Options.{none_some, some_one}
@@ -22,8 +23,7 @@ use Rattle.rules.specs.Rules.Served.{start, idle, sends}
 use Rattle.run.specs.Steps.{InSlot, Stands, SentOn, Flown, leaving, Serves, Turn, Turns}
 use Rattle.rules.specs.declared.condition.Condition.{Condition}
 use Rattle.rules.specs.declared.condition.Condition.TheVariants as is
-use Rattle.rules.specs.declared.condition.Event.TheVariants.{Sent as IsSent}
-use Rattle.rules.specs.declared.condition.Onward.TheVariants.{Link, Out}
+use Rattle.rules.specs.declared.condition.Event.TheVariants.{Forward, LetOut}
 use Rattle.rules.specs.declared.hop.HopRecord.{HopRecord}
 use Rattle.run.specs.declared.recording.Recording.{Recording}
 use Rattle.run.specs.declared.standing.Standing.{Standing}
@@ -72,24 +72,24 @@ module _ {D : Type 0} (waiting : D → Waiting) (choice : D → ℕ → ℕ → 
         elim (cases_lt c N.cells) [ inl l ↦ l | inr l ↦ absurd (none_some s.0 (I.strangers c l) s.1) ]
 
     -- the cell that was picked waits at this port
-    waits : (h : ℕ) × (a : ℕ) × ((get_or r.records c no_record).condition ≡ is.Waiting h a) × (N.port c h ≡ p)
+    waits : (h : ℕ) × (a : ℕ) × ((get_or r.records.items c no_record).condition ≡ is.Waiting h a) × (N.port c h ≡ p)
     waits =
         let s = at_stay (waiting d) p c there in
-        let w = waits_so N c (get_or r.records c no_record).condition s.0 (sym (I.queued c known) ∙ s.1) in
+        let w = waits_so N c (get_or r.records.items c no_record).condition s.0 (sym (I.queued c known) ∙ s.1) in
         (w.0, w.1, w.2, w.3 ∙ s.2)
 
     pub stands_somewhere : Stands r c None → ⊥
     stands_somewhere n =
         let w = waits in
         let P = I.placed c known in
-        n w.0 w.1 (record { cell = known; hop = short (get_or r.records c no_record).condition w.0 w.1 w.2 P }) w.2
+        n w.0 w.1 (record { cell = known; hop = short (get_or r.records.items c no_record).condition w.0 w.1 w.2 P }) w.2
       where
         short : (k : Condition) (h a : ℕ) → k ≡ is.Waiting h a → Placed N (sent_in (cells_of r.plan) log) t c k → h < N.len c
         short k h a e P = (subst (Placed N (sent_in (cells_of r.plan) log) t c) e P).0
 
     -- the cell that was picked is sent, and its port is marked
     module _ (s : Standing) (S : Stands r c (Some s)) (q₁ q : Recording) (sent : SentOn r c s (get_or (delays_of r.plan) p 0) q₁)
-        (same : Kept q₁ q) (records : q.records ≡ q₁.records) (gone : q.gone ≡ q₁.gone)
+        (same : Kept q₁ q) (records : q.records.items ≡ q₁.records.items) (gone : q.gone ≡ q₁.gone)
         (contested : sound e → q.contested ≡ cond (ltb 0 (count_at (waiting e) p)) (set q₁.contested p true) q₁.contested)
         (port : p < length (delays_of r.plan)) (long : hops_in (cells_of r.plan) ≤ length log) where
       abbrev h : ℕ
@@ -108,26 +108,26 @@ module _ {D : Type 0} (waiting : D → Waiting) (choice : D → ℕ → ℕ → 
       port_is : N.port c h ≡ p
       port_is =
           let w = waits in
-          let a : (get_or r.records c no_record).condition ≡ is.Waiting h S.1.0 = S.1.1 in
-          let b : (get_or r.records c no_record).condition ≡ is.Waiting w.0 w.1 = w.2 in
+          let a : (get_or r.records.items c no_record).condition ≡ is.Waiting h S.1.0 = S.1.1 in
+          let b : (get_or r.records.items c no_record).condition ≡ is.Waiting w.0 w.1 = w.2 in
           let at : h ≡ w.0 = cc in
           ap (N.port c) at ∙ w.3
 
       leaving_is : leaving s t (get_or (delays_of r.plan) p 0) ≡ onward N t c h
       leaving_is =
-          ap (λ b. cond b (Link (h + 1) (t + get_or (delays_of r.plan) p 0)) Out) S.4
-          ∙ ap (λ j. cond (goes_on N c h) (Link (h + 1) (t + get_or (delays_of r.plan) j 0)) Out) (sym port_is)
+          ap (λ b. cond b (Forward (h + 1) (t + get_or (delays_of r.plan) p 0)) LetOut) S.4
+          ∙ ap (λ j. cond (goes_on N c h) (Forward (h + 1) (t + get_or (delays_of r.plan) j 0)) LetOut) (sym port_is)
 
-      own : q.records ≡ set r.records c
-          (record { condition = next_condition (get_or r.records c no_record).condition (IsSent (leaving s t (get_or (delays_of r.plan) p 0))); first = (get_or r.records c no_record).first })
+      own : q.records.items ≡ set r.records.items c
+          (record { condition = next_condition (get_or r.records.items c no_record).condition (leaving s t (get_or (delays_of r.plan) p 0)); first = (get_or r.records.items c no_record).first })
       own = records ∙ sent.records
 
-      becomes : (get_or q.records c no_record).condition ≡ next_condition (get_or r.records c no_record).condition (IsSent (onward N t c h))
+      becomes : (get_or q.records.items c no_record).condition ≡ next_condition (get_or r.records.items c no_record).condition (onward N t c h)
       becomes =
           let few = net.cell_few r.plan c here.cell in
-          let wide = r.wide in
-          ap (λ x. (get_or x c no_record).condition) own ∙ ap (λ x. x.condition) (get_or-set_same r.records c _ no_record (omega arith))
-          ∙ ap (λ o. next_condition (get_or r.records c no_record).condition (IsSent o)) leaving_is
+          let counted = r.counted in
+          ap (λ x. (get_or x c no_record).condition) own ∙ ap (λ x. x.condition) (get_or-set_same r.records.items c _ no_record (omega arith))
+          ∙ ap (λ o. next_condition (get_or r.records.items c no_record).condition o) leaving_is
 
       place_is : s.place ≡ first_hop (cells_of r.plan) c + h
       place_is = S.5
@@ -155,7 +155,7 @@ module _ {D : Type 0} (waiting : D → Waiting) (choice : D → ℕ → ℕ → 
             picked = (told I.lawful).1;
             waited = S.1.1;
             becomes = becomes;
-            others = λ k n. ap (λ x. (get_or x k no_record).condition) own ∙ ap (λ x. x.condition) (get_or-set_other r.records c k _ no_record n);
+            others = λ k n. ap (λ x. (get_or x k no_record).condition) own ∙ ap (λ x. x.condition) (get_or-set_other r.records.items c k _ no_record n);
             sent = ap (λ x. x c h) sent_same ∙ ap (λ i. (get_or log' i no_hop).sent) (sym place_is)
                 ∙ ap (λ x. x.sent) (get_or-set_same log s.place _ no_hop (let a = place_within (cells_of r.plan) c h here.cell here.hop in let b = place_is in omega arith));
             kept = λ k g on ne. ap (λ x. x k g) sent_same
@@ -164,9 +164,9 @@ module _ {D : Type 0} (waiting : D → Waiting) (choice : D → ℕ → ℕ → 
                 elim ne [ inl n ↦ n y.0 | inr n ↦ n y.1 ]));
             contested = ap (λ x. get_or x p false) marked ∙ elim (cases_Bool (ltb 0 (count_at (waiting e) p))) [
               | inl y ↦ ap (λ b. get_or (cond b (set r.contested p true) r.contested) p false) y ∙ get_or-set_same r.contested p true false (omega arith)
-                  ∙ sym (or_true (get_or r.contested p false)) ∙ ap (λ b. get_or r.contested p false || b) (sym y)
+                  ∙ sym (or-true (get_or r.contested p false)) ∙ ap (λ b. get_or r.contested p false || b) (sym y)
               | inr y ↦ ap (λ b. get_or (cond b (set r.contested p true) r.contested) p false) y
-                  ∙ sym (or_false (get_or r.contested p false)) ∙ ap (λ b. get_or r.contested p false || b) (sym y)
+                  ∙ sym (or-false (get_or r.contested p false)) ∙ ap (λ b. get_or r.contested p false || b) (sym y)
             ];
             others_contested = λ k n. ap (λ x. get_or x k false) marked ∙ elim (cases_Bool (ltb 0 (count_at (waiting e) p))) [
               | inl y ↦ ap (λ b. get_or (cond b (set r.contested p true) r.contested) k false) y ∙ get_or-set_other r.contested p k true false n
@@ -174,29 +174,21 @@ module _ {D : Type 0} (waiting : D → Waiting) (choice : D → ℕ → ℕ → 
             ];
             gone = gone ∙ sent.gone few_gone ∙ ap {B = ℕ} (λ b. r.gone + cond b 0 1) S.4;
           }
-        where
-          or_true : (b : Bool) → (b || true) ≡ true
-          or_true true = refl
-          or_true false = refl
-
-          or_false : (b : Bool) → (b || false) ≡ b
-          or_false true = refl
-          or_false false = refl
 
       -- the flights after it
       module _ (F : Flying N (moment r log d).condition fs) (A : Ahead N (suc t) (moment r log d).condition)
           (wide : length (cells_of r.plan) ≤ room) (gs : List Flight) (flown : Flown r c s (get_or (delays_of r.plan) p 0) (leb room (length fs)) fs gs) where
         abbrev k₀ : Condition
-        k₀ = (get_or r.records c no_record).condition
+        k₀ = (get_or r.records.items c no_record).condition
 
         idle_before : pending N c k₀ ≡ None
         idle_before = ap (pending N c) S.1.1
 
-        next_pending : (b : Bool) → goes_on N c h ≡ b → pending N c (get_or q.records c no_record).condition ≡ cond b (Some (t + N.delay (N.port c h))) None
-        next_pending b g = ap (pending N c) (becomes ∙ ap (λ k. next_condition k (IsSent (onward N t c h))) S.1.1
-            ∙ ap (λ x. next_condition (is.Waiting h S.1.0) (IsSent (cond x (Link (h + 1) (t + N.delay (N.port c h))) Out))) g) ∙ by b
+        next_pending : (b : Bool) → goes_on N c h ≡ b → pending N c (get_or q.records.items c no_record).condition ≡ cond b (Some (t + N.delay (N.port c h))) None
+        next_pending b g = ap (pending N c) (becomes ∙ ap (λ k. next_condition k (onward N t c h)) S.1.1
+            ∙ ap (λ x. next_condition (is.Waiting h S.1.0) (cond x (Forward (h + 1) (t + N.delay (N.port c h))) LetOut)) g) ∙ by b
           where
-            by : (b : Bool) → pending N c (next_condition (is.Waiting h S.1.0) (IsSent (cond b (Link (h + 1) (t + N.delay (N.port c h))) Out))) ≡ cond b (Some (t + N.delay (N.port c h))) None
+            by : (b : Bool) → pending N c (next_condition (is.Waiting h S.1.0) (cond b (Forward (h + 1) (t + N.delay (N.port c h))) LetOut)) ≡ cond b (Some (t + N.delay (N.port c h))) None
             by true = refl
             by false = refl
 
@@ -221,7 +213,7 @@ module _ {D : Type 0} (waiting : D → Waiting) (choice : D → ℕ → ℕ → 
         ahead : Ahead N (suc t) (moment q log' e).condition
         ahead k u l y = elim (cases_eq k c) [
           | inl z ↦ (
-              let w : pending N c (get_or q.records c no_record).condition ≡ Some u = ap (λ j. pending N j ((moment q log' e).condition j)) (sym z) ∙ y in
+              let w : pending N c (get_or q.records.items c no_record).condition ≡ Some u = ap (λ j. pending N j ((moment q log' e).condition j)) (sym z) ∙ y in
               let far = (net.sound r.plan).apart c h here in
               elim (cases_Bool (goes_on N c h)) [
                 | inl g ↦ (let v = some_one _ u (next_pending true g) w in omega arith)

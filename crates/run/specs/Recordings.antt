@@ -17,7 +17,7 @@ flows r = flow_of (cells_of r.plan)
 -- with its hop log and its queue discipline
 abbrev pub moment : {D : Type 0} → Recording → List HopRecord → D → Moment D
 moment r log q = record {
-  condition = λ c. (get_or r.records c no_record).condition;
+  condition = λ c. (get_or r.records.items c no_record).condition;
   sent = sent_in (cells_of r.plan) log;
   contested = λ p. slice_index_or r.contested p false;
   gone = r.gone;

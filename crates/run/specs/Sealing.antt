@@ -26,12 +26,11 @@ SealTested cs flights log w (Err e) =
     ⊎ ((e ≡ NoPlace) × (0 < length cs) × (Roomy cs flights log → ⊥))
     ⊎ ((e ≡ HoldsCells) × (0 < length cs) × Roomy cs flights log × (Empty w → ⊥))
 
--- the records when those of the first k cells are made: every cell is outside, and each of the first k has the place of its first hop
+-- the records of the first k cells: each is outside, and has the place of its first hop
 pub record Ready (cs : List Planned) (k : ℕ) (rs : List CellRecord) : Type 0 where
-  pub size : length rs ≡ 256
+  pub size : length rs ≡ k
   pub outside : (c : ℕ) → (get_or rs c no_record).condition ≡ Outside
   pub first : (c : ℕ) → c < k → (get_or rs c no_record).first ≡ first_hop cs c
-  pub unused : (c : ℕ) → k ≤ c → (get_or rs c no_record).first ≡ 0
 
 -- the flights of the first k cells to their entry slots
 abbrev pub launched : List Planned → ℕ → List Flight
@@ -47,5 +46,5 @@ pub record Cleared (hops : ℕ) (log log' : List HopRecord) : Type 0 where
 pub record Starting (r : Recording) : Type 0 where
   pub next : r.next ≡ 0
   pub gone : r.gone ≡ 0
-  pub outside : (c : ℕ) → (get_or r.records c no_record).condition ≡ Outside
+  pub outside : (c : ℕ) → (get_or r.records.items c no_record).condition ≡ Outside
   pub calm : (p : ℕ) → slice_index_or r.contested p false ≡ false

@@ -38,7 +38,7 @@ slot_test r flights log = or_else (when (ended r) RunEnded) (when (too_short r f
 
 -- each cell of the plan is gone
 abbrev pub AllGone : Recording → Type 0
-AllGone r = (c : ℕ) → c < (network_of r).cells → is_gone (slice_index_or r.records c no_record).condition ≡ true
+AllGone r = (c : ℕ) → c < (network_of r).cells → is_gone (slice_index_or r.records.items c no_record).condition ≡ true
 
 -- the next slot was performed by its rules, and all is coherent again
 pub record Performed {D : Type 0} (waiting : D → Waiting) (sound : D → Type 0) (arrives : D → ℕ → ℕ → ℕ → ℕ → ℤ → D → Type 0) (picks : D → ℕ → ℕ → ℕ → D → Type 0)

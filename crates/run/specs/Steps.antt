@@ -15,9 +15,8 @@ use Rattle.run.specs.Offsets.{no_record}
 use Rattle.run.specs.Recordings.{network_of, flows, moment, Kept}
 use Rattle.rules.specs.Rules.{Entered, Sends, Served, goes_on}
 use Rattle.rules.specs.declared.condition.Condition.TheVariants.{Waiting as Waits}
-use Rattle.rules.specs.declared.condition.Event.TheVariants.{Sent as IsSent}
-use Rattle.rules.specs.declared.condition.Onward.{Onward}
-use Rattle.rules.specs.declared.condition.Onward.TheVariants.{Link, Out}
+use Rattle.rules.specs.declared.condition.Event.{Event}
+use Rattle.rules.specs.declared.condition.Event.TheVariants.{Forward, LetOut}
 use Rattle.run.specs.declared.standing.Standing.{Standing}
 use Rattle.rules.specs.declared.hop.HopRecord.{HopRecord}
 use Rattle.run.specs.declared.recording.Recording.{Recording}
@@ -30,22 +29,22 @@ InSlot waiting sound r log q = Inside (network_of r) waiting sound r.next (momen
 abbrev pub Stands : Recording → ℕ → Option Standing → Type 0
 Stands r c (Some s) =
     Hop (network_of r) c s.position
-    × ((a : ℕ) × ((slice_index_or r.records c no_record).condition ≡ Waits s.position a))
+    × ((a : ℕ) × ((slice_index_or r.records.items c no_record).condition ≡ Waits s.position a))
     × (s.port ≡ (network_of r).port c s.position)
     × (s.flow ≡ flows r c)
     × (s.goes_on ≡ goes_on (network_of r) c s.position)
     × (s.place ≡ first_hop (cells_of r.plan) c + s.position)
-Stands r c None = (h a : ℕ) → Hop (network_of r) c h → (slice_index_or r.records c no_record).condition ≢ Waits h a
+Stands r c None = (h a : ℕ) → Hop (network_of r) c h → (slice_index_or r.records.items c no_record).condition ≢ Waits h a
 
 -- where a cell goes that is sent in slot t by a port with this delay
-abbrev pub leaving : Standing → ℕ → ℕ → Onward
-leaving s t delay = cond s.goes_on (Link (s.position + 1) (t + delay)) Out
+abbrev pub leaving : Standing → ℕ → ℕ → Event
+leaving s t delay = cond s.goes_on (Forward (s.position + 1) (t + delay)) LetOut
 
 -- cell c, which stands there, was sent by a port with this delay: what changed in the recording, the hop log and the flights
 pub record SentOn (r : Recording) (c : ℕ) (s : Standing) (delay : ℕ) (q : Recording) : Type 0 where
   pub same : Kept r q
-  pub records : q.records ≡ slice_set r.records c
-      (record { condition = next_condition (slice_index_or r.records c no_record).condition (IsSent (leaving s r.next delay)); first = (slice_index_or r.records c no_record).first })
+  pub records : q.records.items ≡ slice_set r.records.items c
+      (record { condition = next_condition (slice_index_or r.records.items c no_record).condition (leaving s r.next delay); first = (slice_index_or r.records.items c no_record).first })
   pub contested : q.contested ≡ r.contested
   pub gone : r.gone ≤ 256 → q.gone ≡ r.gone + cond s.goes_on 0 1
 

@@ -1,14 +1,13 @@
 // A cell that was picked and is to be sent.
-ghost use Rattle.std.specs.Prelude.{◌≡◌, ◌+◌, ◌<◌, false, length};
+ghost use Rattle.std.specs.Prelude.{◌≡◌, ◌+◌, ◌<◌, false};
 ghost use Rattle.rules.specs.Conditions.{next_condition};
-ghost use Rattle.rules.specs.declared.condition.Event.TheVariants.{Sent as IsSent};
-ghost use Rattle.rules.specs.declared.condition.Onward.TheVariants.{Link, Out};
-ghost use Rattle.table.specs.Elements.{elements, full};
+ghost use Rattle.rules.specs.declared.condition.Event.TheVariants.{Forward, LetOut};
+ghost use Rattle.table.specs.Elements.{elements, full, SamePlaces};
 ghost use Rattle.table.specs.Kinds.{flight_upto};
 ghost use Rattle.table.specs.Order.{put_in};
 
 use crate::standing::Standing;
-use rules::{CellRecord, Event, Onward};
+use rules::{CellRecord, Event};
 use table::{Flight, Table};
 
 // It is not `Drop`: whoever has one must spend it, by putting the cell on its link or letting it out.
@@ -21,33 +20,28 @@ pub(crate) struct Picked {
 impl Picked {
     // Puts the cell on the link to its next position, where it arrives in slot `until`.
     pub(crate) fn forward(self, own: &mut CellRecord, until: u32, flights: &mut Table<Flight>)
-        ensures condition { own.new.condition ≡ next_condition own.old.condition (IsSent (Link (self.standing.position + 1) until)) }
+        ensures condition { own.new.condition ≡ next_condition own.old.condition (Forward (self.standing.position + 1) until) }
         ensures first { own.new.first ≡ own.old.first }
         ensures flights { full flights.old ≡ false → elements flights.new ≡ put_in flight_upto (record { slot = until; cell = self.cell }) (elements flights.old) }
-        ensures same { flights.new.places.ghost_name ≡ flights.old.places.ghost_name }
-        ensures long { length flights.new.places.now ≡ length flights.old.places.now }
+        ensures places { SamePlaces flights.old flights.new }
     {
         let Picked { cell, standing } = self;
-        own.happen(Event::Sent {
-            onward: Onward::Link {
-                position: standing.position + 1,
-                until,
-            },
+        own.happen(Event::Forward {
+            position: standing.position + 1,
+            until,
         });
         let _ = flights.put(Flight { slot: until, cell });
     }
 
     // Lets the cell out.
     pub(crate) fn let_out(self, own: &mut CellRecord)
-        ensures condition { own.new.condition ≡ next_condition own.old.condition (IsSent Out) }
+        ensures condition { own.new.condition ≡ next_condition own.old.condition LetOut }
         ensures first { own.new.first ≡ own.old.first }
     {
         let Picked {
             cell: _,
             standing: _,
         } = self;
-        own.happen(Event::Sent {
-            onward: Onward::Out,
-        });
+        own.happen(Event::LetOut);
     }
 }

@@ -5,27 +5,29 @@ mod seal;
 mod slot;
 
 ghost use Rattle.std.specs.Prelude.{◌≡◌, ◌≤◌, length};
+ghost use Rattle.arrayvec.specs.ArrayVec.{array_vec_len};
 ghost use Rattle.plan.specs.Plans.{cells_of};
 ghost use Rattle.run.specs.Offsets.{Offsets};
 
+use arrayvec::ArrayVec;
 use layout::Pile;
 use plan::Plan;
 use rules::CellRecord;
 
-// The plan, the queue discipline that a file of it names, and a record for each cell, of which the first are in use.
+// The plan, the queue discipline that a file of it names, a record for each cell, and which ports were contested.
 // `next` is the slot that is performed next, `gone` how many cells have left, and `flying` how many places of the
-// flights are in use.
+// flights, which are lent to each call, are in use.
 #[derive(Drop)]
 pub struct Recording {
     plan: Plan,
     pile: Pile,
-    records: [CellRecord; 256],
+    records: ArrayVec<CellRecord, 256>,
     contested: [bool; 32],
     next: u32,
     gone: usize,
     flying: usize,
-    ghost wide: { length records ≡ 256 },
+    ghost counted: { array_vec_len records ≡ length (cells_of plan) },
     ghost broad: { length contested ≡ 32 },
-    ghost offsets: { Offsets (cells_of plan) records },
+    ghost offsets: { Offsets (cells_of plan) records.items },
     ghost bounded: { next ≤ 587521 },
 }

@@ -1,15 +1,14 @@
 -- What came of a recording that has ended, as text for a person.
-use Rattle.std.specs.Prelude.{◌≡◌, ℕ, zero, suc, Bool, true, false, cond, not, List, [], ◌∷◌, ◌++◌, length, None, Ok, Err, string_bytes, codes, decimal, Option, Result, String, nat_le, nat_lt, slice_index_or}
+use Rattle.std.specs.Prelude.{◌≡◌, ℕ, zero, suc, Bool, false, cond, List, [], ◌∷◌, ◌++◌, length, None, Ok, Err, string_bytes, codes, decimal, Result, String, slice_index_or}
 use Rattle.std.specs.List.{flat_map}
 use Rattle.std.specs.Fmt.{signed_decimal}
 use Rattle.std.specs.declared.alloc.Global.{Global}
-use Rattle.refusal.specs.Tests.{when, or_else, Refuses}
+use Rattle.refusal.specs.Tests.{Refuses}
 use Rattle.refusal.specs.declared.Refusal.{Refusal}
-use Rattle.refusal.specs.declared.Refusal.TheVariants.{NoMemory, RunNotEnded, NoPlace}
-use Rattle.plan.specs.Cells.{hops_in}
 use Rattle.plan.specs.Plans.{delays_of, cells_of}
 use Rattle.rules.specs.declared.hop.HopRecord.{HopRecord}
 use Rattle.run.specs.declared.recording.Recording.{Recording}
+use Rattle.outcome.specs.Ends.{ended_test}
 use Rattle.outcome.specs.Outcomes.{outcome_of}
 use Rattle.outcome.specs.declared.cell.CellOutcome.{CellOutcome}
 
@@ -44,11 +43,6 @@ abbrev pub ports_part : List ℕ → List ℕ
 ports_part [] = codes " none"
 ports_part (p ∷ ps) = flat_map port_part (p ∷ ps)
 
--- whether a list has an item
-abbrev pub nonempty : List ℕ → Bool
-nonempty [] = false
-nonempty (x ∷ xs) = true
-
 -- the contested ports of the plan
 abbrev pub contested_ports : Recording → List ℕ
 contested_ports r = flagged r.contested (length (delays_of r.plan))
@@ -61,23 +55,7 @@ contested_line r = codes "contested" ++ (ports_part (contested_ports r) ++ feed)
 unfoldable pub summarized : Recording → List HopRecord → List ℕ
 summarized r log = cell_lines r log (length (cells_of r.plan)) ++ contested_line r
 
--- before every cell is gone; then a hop log shorter than the hops
-abbrev pub summary_test : Recording → List HopRecord → Option Refusal
-summary_test r log =
-    or_else (when (not (nat_le (length (cells_of r.plan)) r.gone)) RunNotEnded)
-    (when (nat_lt (length log) (hops_in (cells_of r.plan))) NoPlace)
-
--- a call that writes: the piece stands behind what was written before, or there is no memory for it
-abbrev pub Appends : List ℕ → List ℕ → Result (Unit {0}) Refusal → List ℕ → Type 0
-Appends before piece (Ok x) after = after ≡ before ++ piece
-Appends before piece (Err e) after = e ≡ NoMemory
-
--- the same of a call that answers b where it has written
-abbrev pub AppendsTelling : Bool → List ℕ → List ℕ → Result Bool Refusal → List ℕ → Type 0
-AppendsTelling b before piece (Ok x) after = (x ≡ b) × (after ≡ before ++ piece)
-AppendsTelling b before piece (Err e) after = e ≡ NoMemory
-
 -- the text, or the first test that fails, or no memory where none does
 abbrev pub Answers : Recording → List HopRecord → Result (String Global) Refusal → Type 0
-Answers r log (Ok t) = (summary_test r log ≡ None) × (string_bytes t ≡ summarized r log)
-Answers r log (Err e) = Refuses (summary_test r log) e
+Answers r log (Ok t) = (ended_test r log ≡ None) × (string_bytes t ≡ summarized r log)
+Answers r log (Err e) = Refuses (ended_test r log) e

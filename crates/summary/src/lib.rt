@@ -1,73 +1,63 @@
 // What came of a recording that has ended, as text for a person.
 #![tactic(auto)]
 
-ghost use Rattle.std.specs.Prelude.{◌≡◌, length, None, string_bytes};
-ghost use Rattle.std.specs.List.{flat_map};
-ghost use Rattle.refusal.specs.Tests.{tested};
+ghost use Rattle.std.specs.Prelude.{◌≡◌, ◌++◌, length, codes, vec_items, string_bytes, IfOk, OnOk};
 ghost use Rattle.plan.specs.Plans.{cells_of};
-ghost use Rattle.summary.specs.Summaries.{cell_line, cell_lines, port_part, nonempty, contested_ports, contested_line, summary_test, Appends, AppendsTelling, Answers};
+ghost use Rattle.summary.specs.Summaries.{cell_line, cell_lines, ports_part, contested_ports, feed, Answers};
 
-use outcome::{CellOutcome, outcome};
+use outcome::{CellOutcome, Ended};
 use refusal::Refusal;
 use rules::HopRecord;
 use run::Recording;
-use std::alloc::Global;
-
-// Refuses a summary.
-fn test_summary(recording: &Recording, log: &[HopRecord]) -> Result<(), Refusal>
-    ensures { result ≡ tested (summary_test recording.now log.now) }
-{
-    if !recording.ended() {
-        return Err(Refusal::RunNotEnded);
-    }
-    if log.len() < recording.plan().hops() {
-        return Err(Refusal::NoPlace);
-    }
-    Ok(())
-}
+use std::alloc::{AllocError, Global};
 
 // Writes the line of a cell.
-fn write_cell(text: &mut String, cell: usize, told: CellOutcome) -> Result<(), Refusal>
-    ensures { Appends (string_bytes text.old) (cell_line cell told) result (string_bytes text.new) }
+fn write_cell(text: &mut String, cell: usize, told: CellOutcome) -> Result<(), AllocError>
+    ensures { OnOk result (string_bytes text.new ≡ string_bytes text.old ++ cell_line cell told) }
 {
     let CellOutcome { entry, exit, slack } = told;
-    let written = writeln!(text, "cell {cell} entry {entry} exit {exit} waited {slack}");
-    written.or(Err(Refusal::NoMemory))
+    writeln!(text, "cell {cell} entry {entry} exit {exit} waited {slack}")
 }
 
 // Writes a line for each cell.
-fn write_cells(text: &mut String, recording: &Recording, log: &[HopRecord]) -> Result<(), Refusal>
-    requires { summary_test recording.now log.now ≡ None }
-    ensures { Appends (string_bytes text.old) (cell_lines recording.now log.now (length (cells_of recording.now.plan))) result (string_bytes text.new) }
+fn write_cells(text: &mut String, ended: &Ended) -> Result<(), AllocError>
+    ensures { OnOk result (string_bytes text.new ≡ string_bytes text.old ++ cell_lines ended.now.recording.now ended.now.log.now (length (cells_of ended.now.recording.now.plan))) }
 {
-    for cell in 0..recording.plan().cells() {
-        write_cell(text, cell, outcome(recording, log, cell)?)?;
+    for cell in 0..ended.cells() {
+        write_cell(text, cell, ended.fared(cell))?;
     }
     Ok(())
 }
 
-// Writes the numbers of the contested ports, and tells whether there is one.
-fn write_ports(text: &mut String, recording: &Recording) -> Result<bool, Refusal>
-    ensures { AppendsTelling (nonempty (contested_ports recording.now)) (string_bytes text.old) (flat_map port_part (contested_ports recording.now)) result (string_bytes text.new) }
+// The numbers of the contested ports, in ascending order.
+fn contested_ports(heap: Global, recording: &Recording) -> Result<Vec<usize>, AllocError>
+    ensures { IfOk result (λ ports. vec_items ports ≡ contested_ports recording.now) }
 {
-    let mut found = false;
-    for port in 0..recording.plan().ports() {
-        if recording.contested(port)? {
-            write!(text, " {port}").or(Err(Refusal::NoMemory))?;
-            found = true;
-        }
+    (0..recording.plan().ports())
+        .filter(|port| recording.contested(*port).unwrap())
+        .collect(heap)
+}
+
+// Writes ports in a line, or the word for none.
+fn write_ports(text: &mut String, ports: &[usize]) -> Result<(), AllocError>
+    ensures { OnOk result (string_bytes text.new ≡ string_bytes text.old ++ ports_part ports.now) }
+{
+    if ports.is_empty() {
+        return write!(text, " none");
     }
-    Ok(found)
+    for port in ports {
+        write!(text, " {port}")?;
+    }
+    Ok(())
 }
 
 // Writes the line of the contested ports.
-fn write_contested(text: &mut String, recording: &Recording) -> Result<(), Refusal>
-    ensures { Appends (string_bytes text.old) (contested_line recording.now) result (string_bytes text.new) }
+fn write_contested(text: &mut String, ports: &[usize]) -> Result<(), AllocError>
+    ensures { OnOk result (string_bytes text.new ≡ string_bytes text.old ++ (codes "contested" ++ (ports_part ports.now ++ feed))) }
 {
-    write!(text, "contested").or(Err(Refusal::NoMemory))?;
-    let found = write_ports(text, recording)?;
-    let end = if found { "" } else { " none" };
-    writeln!(text, "{end}").or(Err(Refusal::NoMemory))
+    write!(text, "contested")?;
+    write_ports(text, ports)?;
+    writeln!(text)
 }
 
 // The summary: a line for each cell, with its entry slot, its exit slot and how many slots it waited, and then one with
@@ -75,9 +65,9 @@ fn write_contested(text: &mut String, recording: &Recording) -> Result<(), Refus
 pub fn summary(heap: Global, recording: &Recording, log: &[HopRecord]) -> Result<String, Refusal>
     ensures { Answers recording.now log.now result }
 {
-    test_summary(recording, log)?;
+    let ended = Ended::new(recording, log)?;
     let mut text = String::new(heap);
-    write_cells(&mut text, recording, log)?;
-    write_contested(&mut text, recording)?;
+    write_cells(&mut text, &ended)?;
+    write_contested(&mut text, contested_ports(heap, recording)?.as_slice())?;
     Ok(text)
 }

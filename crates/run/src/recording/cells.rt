@@ -1,5 +1,6 @@
 // The cells of a recording.
-ghost use Rattle.std.specs.Prelude.{◌≡◌, ◌<◌, slice_index_or, slice_set};
+ghost use Rattle.std.specs.Prelude.{◌≡◌, ◌<◌, length, slice_index_or, slice_set};
+ghost use Rattle.plan.specs.Plans.{cells_of};
 ghost use Rattle.rules.specs.Conditions.{next_condition};
 ghost use Rattle.run.specs.Offsets.{no_record};
 ghost use Rattle.run.specs.Recordings.{Kept};
@@ -17,17 +18,15 @@ impl Recording {
     {
         let planned = self.plan.cell(cell)?;
         let own = self.records[cell];
-        let Condition::Waiting { position, since: _ } = own.condition else {
+        let Condition::Waiting { position, .. } = own.condition else {
             return None;
         };
         let route = planned.route();
         let ports = route.ports();
-        if position >= ports.len() {
-            return None;
-        }
+        let port = *ports.get(position)?;
         Some(Standing {
             position,
-            port: usize::from(ports[position]),
+            port: usize::from(port),
             flow: planned.flow(),
             goes_on: position + 1 < ports.len(),
             place: own.first + position,
@@ -36,14 +35,12 @@ impl Recording {
 
     // Something happens to a cell.
     pub(crate) fn happen(&mut self, cell: usize, event: Event)
-        requires { cell < 256 }
+        requires { cell < length (cells_of self.old.plan) }
         ensures kept { Kept self.old self.new }
-        ensures records { self.new.records ≡ slice_set self.old.records cell (record { condition = next_condition (slice_index_or self.old.records cell no_record).condition event; first = (slice_index_or self.old.records cell no_record).first }) }
+        ensures records { self.new.records.items ≡ slice_set self.old.records.items cell (record { condition = next_condition (slice_index_or self.old.records.items cell no_record).condition event; first = (slice_index_or self.old.records.items cell no_record).first }) }
         ensures contested { self.new.contested ≡ self.old.contested }
         ensures gone { self.new.gone ≡ self.old.gone }
     {
-        let mut own = self.records[cell];
-        own.happen(event);
-        self.records[cell] = own;
+        self.records[cell].happen(event);
     }
 }

@@ -1,13 +1,14 @@
 // How a plan becomes a recording.
-ghost use Rattle.std.specs.Prelude.{◌≡◌, ◌≤◌, [], length, take};
+ghost use Rattle.std.specs.Prelude.{◌≡◌, ◌≤◌, ◌||◌, [], length, take, nat_lt};
 ghost use Rattle.discipline.specs.Meaning.{Empty};
 ghost use Rattle.plan.specs.Cells.{hops_in};
 ghost use Rattle.plan.specs.Plans.{cells_of};
 ghost use Rattle.run.specs.Sealing.{SealTested, Ready, launched, Cleared, Starting};
 ghost use Rattle.run.specs.Slots.{Coherent};
-ghost use Rattle.table.specs.Elements.{elements};
+ghost use Rattle.table.specs.Elements.{elements, SamePlaces};
 
 use crate::recording::Recording;
+use arrayvec::ArrayVec;
 use discipline::{Discipline, holds_none};
 use layout::Pile;
 use plan::Plan;
@@ -15,17 +16,24 @@ use refusal::Refusal;
 use rules::{CellRecord, Condition, HopRecord};
 use table::{Flight, Table};
 
-// A record for each cell, which is outside.
-fn outside(plan: &Plan) -> [CellRecord; 256]
-    ensures { Ready (cells_of plan.now) (length (cells_of plan.now)) result }
+// Whether there are fewer flights than cells, or fewer records than hops.
+pub(crate) fn too_short(plan: &Plan, flights: &[Flight], log: &[HopRecord]) -> bool
+    ensures { result ≡ (nat_lt (length flights.now) (length (cells_of plan.now)) || nat_lt (length log.now) (hops_in (cells_of plan.now))) }
 {
-    let mut records = [CellRecord {
-        condition: Condition::Outside,
-        first: 0,
-    }; 256];
+    flights.len() < plan.cells() || log.len() < plan.hops()
+}
+
+// A record for each cell, which is outside.
+fn outside(plan: &Plan) -> ArrayVec<CellRecord, 256>
+    ensures { Ready (cells_of plan.now) (length (cells_of plan.now)) result.items }
+{
+    let mut records = ArrayVec::new();
     let mut first = 0;
-    for (number, cell) in plan.all_cells().iter().enumerate() {
-        records[number].first = first;
+    for cell in plan.all_cells() {
+        records.push(CellRecord {
+            condition: Condition::Outside,
+            first,
+        });
         first += cell.route().ports().len();
     }
     records
@@ -34,8 +42,7 @@ fn outside(plan: &Plan) -> [CellRecord; 256]
 // Puts the flight of each cell to its entry slot into an empty table.
 fn put_flights(plan: &Plan, table: &mut Table<Flight>)
     ensures flights { elements table.old ≡ [] → length (cells_of plan.now) ≤ length table.old.places.now → elements table.new ≡ launched (cells_of plan.now) (length (cells_of plan.now)) }
-    ensures same { table.new.places.ghost_name ≡ table.old.places.ghost_name }
-    ensures long { length table.new.places.now ≡ length table.old.places.now }
+    ensures places { SamePlaces table.old table.new }
 {
     for (number, cell) in plan.all_cells().iter().enumerate() {
         let slot = u32::from(cell.entry());
@@ -57,9 +64,7 @@ fn clear(log: &mut [HopRecord], hops: usize)
     ensures { Cleared hops log.old log.new }
 {
     let end = hops.min(log.len());
-    for hop in &mut log[..end] {
-        hop.sent = None;
-    }
+    log[..end].fill(HopRecord { sent: None });
 }
 
 impl Recording {
@@ -76,7 +81,7 @@ impl Recording {
         if plan.cells() == 0 {
             return Err(Refusal::NoCells);
         }
-        if flights.len() < plan.cells() || log.len() < plan.hops() {
+        if too_short(plan, flights, log) {
             return Err(Refusal::NoPlace);
         }
         if !holds_none(queue) {

@@ -12,10 +12,11 @@ ghost use Rattle.rules.specs.Rules.{Arrives};
 ghost use Rattle.run.specs.Slots.{Coherent, Performed, Called, AllGone, ended, slot_test};
 ghost use Rattle.rules.specs.Landing.{Landing};
 ghost use Rattle.run.specs.Steps.{InSlot, Enters, SentOn, Flown, Turn, Turns};
-ghost use Rattle.table.specs.Elements.{elements, full};
+ghost use Rattle.table.specs.Elements.{elements, full, SamePlaces};
 
 use crate::picked::Picked;
 use crate::recording::Recording;
+use crate::recording::seal::too_short;
 use discipline::Discipline;
 use refusal::Refusal;
 use rules::{Event, HopRecord};
@@ -28,31 +29,24 @@ const LAST_SLOT: u32 = 65_535 + 2_047 * 255;
 // The first cell that lands in a slot, if one does; its flight is taken out.
 fn take_landing(flights: &mut Table<Flight>, slot: u32) -> Option<usize>
     ensures taken { Landing slot (elements flights.old) result (elements flights.new) }
-    ensures same { flights.new.places.ghost_name ≡ flights.old.places.ghost_name }
-    ensures long { length flights.new.places.now ≡ length flights.old.places.now }
+    ensures places { SamePlaces flights.old flights.new }
 {
     let mark = Flight { slot, cell: 0 };
-    match flights.first(&mark) {
-        Some(flight) => {
-            if flight.slot != slot {
-                return None;
-            }
-            let _ = flights.take_first(&mark);
-            Some(flight.cell)
-        }
-        None => None,
-    }
+    flights.first(&mark).filter(|flight| flight.slot == slot)?;
+    flights.take_first(&mark).map(|flight| flight.cell)
 }
 
 // Notes in the hop log the slot in which a cell is sent.
 fn note(log: &mut [HopRecord], place: usize, slot: u32)
     ensures { log.new ≡ slice_set log.old place (record { sent = Some slot }) }
 {
+    // by an index, since what is written behind `get_mut` is lost to the proof
     if place < log.len() {
         log[place].sent = Some(slot);
     }
 }
 
+// The flights, the log and the discipline are lent to each call: handed on one by one, they show what a part may change.
 impl Recording {
     // A cell enters or lands: it waits from now on, and the queue discipline is told.
     fn enter<D: Discipline>(&mut self, cell: usize, queue: &mut D)
@@ -73,8 +67,7 @@ impl Recording {
     fn enter_all<D: Discipline>(&mut self, flights: &mut Table<Flight>, queue: &mut D)
         ensures same { Kept self.old self.new }
         ensures enters { Enters D.Discipline.waiting D.Discipline.sound D.Discipline.arrives D.Discipline.picks self.old queue.old (elements flights.old) self.new queue.new (elements flights.new) }
-        ensures named { flights.new.places.ghost_name ≡ flights.old.places.ghost_name }
-        ensures long { length flights.new.places.now ≡ length flights.old.places.now }
+        ensures places { SamePlaces flights.old flights.new }
     {
         let slot = self.next;
         while let Some(cell) = take_landing(flights, slot) {
@@ -90,24 +83,21 @@ impl Recording {
         flights: &mut Table<Flight>,
         log: &mut [HopRecord],
     )
-        requires { (port < length (delays_of self.old.plan)) × (picked.cell < 256) }
+        requires { (port < length (delays_of self.old.plan)) × (picked.cell < length (cells_of self.old.plan)) }
         ensures sent { SentOn self.old picked.cell picked.standing (slice_index (delays_of self.old.plan) port) self.new }
         ensures log { log.new ≡ slice_set log.old picked.standing.place (record { sent = Some self.old.next }) }
         ensures flown { Flown self.old picked.cell picked.standing (slice_index (delays_of self.old.plan) port) (full flights.old) (elements flights.old) (elements flights.new) }
-        ensures same { flights.new.places.ghost_name ≡ flights.old.places.ghost_name }
-        ensures long { length flights.new.places.now ≡ length flights.old.places.now }
+        ensures places { SamePlaces flights.old flights.new }
     {
         let slot = self.next;
         let cell = picked.cell;
         note(log, picked.standing.place, slot);
-        let mut own = self.records[cell];
+        let own = &mut self.records[cell];
         if picked.standing.goes_on {
             let until = slot + u32::from(self.plan.delays()[port]);
-            picked.forward(&mut own, until, flights);
-            self.records[cell] = own;
+            picked.forward(own, until, flights);
         } else {
-            picked.let_out(&mut own);
-            self.records[cell] = own;
+            picked.let_out(own);
             self.gone = self.gone.saturating_add(1);
         }
     }
@@ -116,14 +106,12 @@ impl Recording {
     fn mark<D: Discipline>(&mut self, port: usize, queue: &D)
         requires { port < 32 }
         ensures same { Kept self.old self.new }
-        ensures records { self.new.records ≡ self.old.records }
+        ensures records { self.new.records.items ≡ self.old.records.items }
         ensures gone { self.new.gone ≡ self.old.gone }
         ensures contested { D.Discipline.sound queue.now → self.new.contested ≡ (if nat_lt 0 (count_at (D.Discipline.waiting queue.now) port) then slice_set self.old.contested port true else self.old.contested) }
     {
-        if let Ok(cells) = queue.count(port) {
-            if cells > 0 {
-                self.contested[port] = true;
-            }
+        if queue.count(port).is_ok_and(|cells| cells > 0) {
+            self.contested[port] = true;
         }
     }
 
@@ -138,8 +126,7 @@ impl Recording {
         requires { port < length (delays_of self.old.plan) }
         ensures same { Kept self.old self.new }
         ensures turn { Turn D.Discipline.waiting D.Discipline.sound D.Discipline.arrives D.Discipline.picks (length flights.old.places.now) port self.old log.old queue.old (elements flights.old) self.new log.new queue.new (elements flights.new) }
-        ensures named { flights.new.places.ghost_name ≡ flights.old.places.ghost_name }
-        ensures long { length flights.new.places.now ≡ length flights.old.places.now }
+        ensures places { SamePlaces flights.old flights.new }
     {
         let Ok(cell) = queue.pick(port, self.next) else {
             return;
@@ -160,8 +147,7 @@ impl Recording {
     )
         ensures same { Kept self.old self.new }
         ensures turns { Turns D.Discipline.waiting D.Discipline.sound D.Discipline.arrives D.Discipline.picks (length flights.old.places.now) (length (delays_of self.old.plan)) self.old log.old queue.old (elements flights.old) self.new log.new queue.new (elements flights.new) }
-        ensures named { flights.new.places.ghost_name ≡ flights.old.places.ghost_name }
-        ensures long { length flights.new.places.now ≡ length flights.old.places.now }
+        ensures places { SamePlaces flights.old flights.new }
     {
         for port in 0..self.plan.ports() {
             self.serve(port, flights, log, queue);
@@ -176,7 +162,7 @@ impl Recording {
         if self.gone >= self.plan.cells() || self.next > LAST_SLOT {
             return Err(Refusal::RunEnded);
         }
-        if flights.len() < self.plan.cells() || log.len() < self.plan.hops() {
+        if too_short(&self.plan, flights, log) {
             return Err(Refusal::NoPlace);
         }
         Ok(())

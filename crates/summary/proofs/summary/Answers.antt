@@ -1,18 +1,20 @@
-use Rattle.std.proofs.Common.{◌≡◌, [], ◌++◌, length, string_bytes, ap, ◌∙◌}
-use Rattle.refusal.proofs.Ordered.{tested_passes}
+use Rattle.std.proofs.Common.{◌≡◌, [], ◌++◌, length, string_bytes, codes, ap, ◌∙◌}
 use Rattle.plan.specs.Plans.{cells_of}
-use Rattle.summary.specs.Summaries.{cell_lines, contested_line, summarized, summary_test}
+use Rattle.summary.specs.Summaries.{cell_lines, ports_part, feed, summarized}
 use Rattle.summary.proofs.summary.Goals as goal
 
 pub returns : goal.returns
 unfolding summarized
 returns c =
-    let r = c.args.recording.now in
     let log = c.args.log.now in
-    let lines = cell_lines r log (length (cells_of r.plan)) in
+    let e = c.in_ok-ended.ensures in
+    let own = c.in_ok-ended.ended in
     let none : string_bytes c.new-text.result ≡ [] = c.new-text.ensures.bytes in
-    let cells : string_bytes c.write_cells.new.text ≡ string_bytes c.new-text.result ++ lines = c.in_ok-write_cells.ensures in
-    let ports : string_bytes c.write_contested.new.text ≡ string_bytes c.write_cells.new.text ++ contested_line r = c.in_ok-write_contested.ensures in (
-      tested_passes (summary_test r log) _ c.in_ok-test_summary.ensures,
-      ports ∙ ap (λ t. t ++ contested_line r) (cells ∙ ap (λ t. t ++ lines) none),
+    let lines = cell_lines own.recording.now own.log.now (length (cells_of own.recording.now.plan)) in
+    let cells : string_bytes c.write_cells.new.text ≡ lines = c.in_ok-write_cells.ensures ∙ ap (λ t. t ++ lines) none in
+    let same : lines ≡ cell_lines c.args.recording.now log (length (cells_of c.args.recording.now.plan)) =
+    λ i. cell_lines (e.1 i) (e.2 i) (length (cells_of (e.1 i).plan)) in
+    let ports = c.as_slice.ensures.value ∙ c.in_ok-contested_ports.ensures in (
+      e.0,
+      c.in_ok-write_contested.ensures ∙ (λ i. (cells ∙ same) i ++ (codes "contested" ++ (ports_part (ports i) ++ feed))),
     )

@@ -30,7 +30,7 @@ returns g c = λ C.
     let K = c.enter_all.ensures.same in
     let J = c.serve_all.ensures.same in
     let M = kept_again K J in
-    let long : length c.enter_all.new.flights.places.now ≡ length c.args.flights.now = c.enter_all.ensures.long ∙ ap length c.resume-table.ensures.places in
+    let long : length c.enter_all.new.flights.places.now ≡ length c.args.flights.now = c.enter_all.ensures.places.1 ∙ ap length c.resume-table.ensures.places in
     let X = done _ _ _ _ _ (laws g) r c.args.log.now c.args.queue.now (elements c.resume-table.result) C.between
     (subst (Flying (network_of r) (moment r c.args.log.now c.args.queue.now).condition) (sym c.resume-table.ensures.elements) C.flying) C.long
     q K c.enter_all.new.queue (elements c.enter_all.new.flights) c.enter_all.ensures.enters
@@ -48,7 +48,7 @@ returns g c = λ C.
         room = (
             let a = C.room in
             let b = ap (λ x. length (cells_of x)) M.plan in
-            let e = c.serve_all.ensures.long in
+            let e = c.serve_all.ensures.places.1 in
             grind arith);
         long = (
             let a = C.long in

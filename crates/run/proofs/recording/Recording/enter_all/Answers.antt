@@ -20,8 +20,7 @@ laws g = record {
 pub loop-cell-init : goal.loop-cell-init
 loop-cell-init g c = (
   record { plan = refl; pile = refl; next = refl; flying = refl },
-  refl,
-  refl,
+  (refl, refl),
   landed_start _ _ _ _ _ (laws g) c.args.self.now c.args.queue.now (elements c.args.flights.now),
 )
 
@@ -35,18 +34,13 @@ loop-cell-smaller g c =
 pub loop-cell-preserved : goal.loop-cell-preserved
 loop-cell-preserved g c = (
   kept_again c.loop-cell.invariant.0 c.enter.ensures.same,
-  c.in-Some.ensures.same ∙ c.loop-cell.invariant.1,
-  c.in-Some.ensures.long ∙ c.loop-cell.invariant.2,
+  (c.in-Some.ensures.places.0 ∙ c.loop-cell.invariant.1.0, c.in-Some.ensures.places.1 ∙ c.loop-cell.invariant.1.1),
   landed_more _ _ _ _ _ (laws g) c.args.self.now c.args.queue.now (elements c.args.flights.now) c.loop-cell.self c.loop-cell.invariant.0
-      c.loop-cell.queue (elements c.loop-cell.flights) (elements c.take_landing.new.flights) c.loop-cell.invariant.3
+      c.loop-cell.queue (elements c.loop-cell.flights) (elements c.take_landing.new.flights) c.loop-cell.invariant.2
       c.in-Some.cell c.in-Some.ensures.taken c.enter.new.self c.enter.new.queue c.enter.ensures.arrives,
 )
 
-pub returns : goal.returns
-returns g c = record {
-  same = c.loop-cell.invariant.0;
-  enters = landed_end _ _ _ _ _ (laws g) c.args.self.now c.args.queue.now (elements c.args.flights.now) c.loop-cell.self c.loop-cell.invariant.0
-      c.loop-cell.queue (elements c.loop-cell.flights) (elements c.take_landing.new.flights) c.loop-cell.invariant.3 c.in_default.ensures.taken;
-  named = c.in_default.ensures.same ∙ c.loop-cell.invariant.1;
-  long = c.in_default.ensures.long ∙ c.loop-cell.invariant.2;
-}
+pub returns-clause-enters : goal.returns-clause-enters
+returns-clause-enters g c =
+    landed_end _ _ _ _ _ (laws g) c.args.self.now c.args.queue.now (elements c.args.flights.now) c.loop-cell.self c.loop-cell.invariant.0
+    c.loop-cell.queue (elements c.loop-cell.flights) (elements c.take_landing.new.flights) c.loop-cell.invariant.2 c.in_default.ensures.taken

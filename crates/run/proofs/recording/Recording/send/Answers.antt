@@ -1,65 +1,18 @@
-use Rattle.std.proofs.Common.{◌≡◌, ℕ, ◌+◌, true, false, cond, get_or, set, sym, refl, ap, ◌∙◌, arith}
-use Rattle.plan.specs.Plans.{delays_of}
-use Rattle.table.specs.Elements.{elements}
-use Rattle.table.specs.Kinds.{flight_upto}
-use Rattle.table.specs.Order.{put_in}
-use Rattle.rules.specs.Conditions.{next_condition}
-use Rattle.run.specs.Offsets.{no_record}
-use Rattle.rules.specs.declared.condition.Condition.{Condition}
-use Rattle.rules.specs.declared.condition.Event.TheVariants.{Sent as IsSent}
-use Rattle.rules.specs.declared.condition.Onward.{Onward}
-use Rattle.rules.specs.declared.condition.Onward.TheVariants.{Link, Out}
+use Rattle.std.proofs.Common.{arith}
+use Rattle.plan.specs.Plans.{cells_of}
+use Rattle.run.proofs.Records.{offsets_written}
 use Rattle.run.proofs.recording.Recording.send.Goals as goal
 
-pub returns-then-picked : goal.returns-then-picked
-returns-then-picked c =
+pub invariant_of-self-clause-offsets : goal.invariant_of-self-clause-offsets
+invariant_of-self-clause-offsets c =
     let self = c.args.self.now in
-    let s = c.args.picked.standing in
-    let on : s.goes_on ≡ true = c.if-picked.true in
-    let until : self.next + c.from.result ≡ self.next + get_or (delays_of self.plan) c.args.port 0 =
-    ap (λ d. self.next + d) (c.from.ensures ∙ ap (λ l. get_or l c.args.port 0) c.delays.ensures) in
-    let k : Condition = (get_or self.records c.args.picked.cell no_record).condition in
-    let next : Onward → Condition = λ o. next_condition k (IsSent o) in
-    record {
-      sent = record {
-        same = record { plan = refl; pile = refl; next = refl; flying = refl };
-        records = ap (set self.records c.args.picked.cell) (λ i. record {
-          condition = (c.forward.ensures.condition ∙ ap (λ u. next (Link (s.position + 1) u)) until
-              ∙ ap (λ b. next (cond b (Link (s.position + 1) (self.next + get_or (delays_of self.plan) c.args.port 0)) Out)) (sym on)) i;
-          first = c.forward.ensures.first i;
-        });
-        contested = refl;
-        gone = λ l. omega (arith, ap {B = ℕ} (λ b. cond b 0 1) on);
-      };
-      log = c.note.ensures;
-      flown = λ room. c.forward.ensures.flights room
-          ∙ ap (λ u. put_in flight_upto (record { slot = u; cell = c.args.picked.cell }) (elements c.args.flights.now)) until
-          ∙ ap (λ b. cond b (put_in flight_upto (record { slot = self.next + get_or (delays_of self.plan) c.args.port 0; cell = c.args.picked.cell }) (elements c.args.flights.now)) (elements c.args.flights.now)) (sym on);
-      same = c.forward.ensures.same;
-      long = c.forward.ensures.long;
-    }
+    let counted = self.counted in
+    offsets_written (cells_of self.plan) self.records.items c.deref_mut.result.now c.args.picked.cell c.forward.new.own
+    c.deref_mut.ensures.value (omega arith) c.forward.ensures.first self.offsets
 
-pub returns-else-picked : goal.returns-else-picked
-returns-else-picked c =
+pub invariant_of-self-else-picked-clause-offsets : goal.invariant_of-self-else-picked-clause-offsets
+invariant_of-self-else-picked-clause-offsets c =
     let self = c.args.self.now in
-    let s = c.args.picked.standing in
-    let on : s.goes_on ≡ false = c.if-picked.false in
-    let k : Condition = (get_or self.records c.args.picked.cell no_record).condition in
-    let next : Onward → Condition = λ o. next_condition k (IsSent o) in
-    record {
-      sent = record {
-        same = record { plan = refl; pile = refl; next = refl; flying = refl };
-        records = ap (set self.records c.args.picked.cell) (λ i. record {
-          condition = (c.let_out.ensures.condition
-              ∙ ap (λ b. next (cond b (Link (s.position + 1) (self.next + get_or (delays_of self.plan) c.args.port 0)) Out)) (sym on)) i;
-          first = c.let_out.ensures.first i;
-        });
-        contested = refl;
-        gone = λ l. let m = c.saturating_add-self.ensures in omega (arith, ap {B = ℕ} (λ b. cond b 0 1) on);
-      };
-      log = c.note.ensures;
-      flown = λ room.
-          ap (λ b. cond b (put_in flight_upto (record { slot = self.next + get_or (delays_of self.plan) c.args.port 0; cell = c.args.picked.cell }) (elements c.args.flights.now)) (elements c.args.flights.now)) (sym on);
-      same = refl;
-      long = refl;
-    }
+    let counted = self.counted in
+    offsets_written (cells_of self.plan) self.records.items c.deref_mut.result.now c.args.picked.cell c.let_out.new.own
+    c.deref_mut.ensures.value (omega arith) c.let_out.ensures.first self.offsets

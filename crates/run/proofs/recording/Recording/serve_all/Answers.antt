@@ -1,7 +1,5 @@
-use Rattle.std.proofs.Common.{◌≡◌, length, refl, ap, ◌∙◌, subst, arith}
-use Rattle.plan.specs.Plans.{delays_of}
+use Rattle.std.proofs.Common.{length, refl, ◌∙◌}
 use Rattle.table.specs.Elements.{elements}
-use Rattle.run.specs.Steps.{Turns}
 use Rattle.rules.proofs.Disciplines.{Laws}
 use Rattle.run.proofs.Kept.{kept_again}
 use Rattle.run.proofs.Serving.{turns_start, turns_more}
@@ -16,40 +14,19 @@ laws g = record {
   picked = g.met.D.Discipline.picked;
 }
 
-pub serve-requires : goal.serve-requires
-serve-requires g c =
-    let a = ap (λ p. length (delays_of p)) c.loop-port.invariant.0.plan in
-    let b = c.ports-port-end.ensures in
-    let t = c.loop-port-test.true in
-    omega arith
-
 pub loop-port-init : goal.loop-port-init
 loop-port-init g c = (
   record { plan = refl; pile = refl; next = refl; flying = refl },
-  refl,
-  refl,
+  (refl, refl),
   turns_start _ _ _ _ _ (laws g) (length c.args.flights.now.places.now) c.args.self.now c.args.log.now c.args.queue.now (elements c.args.flights.now),
 )
 
 pub loop-port-preserved : goal.loop-port-preserved
 loop-port-preserved g c = (
   kept_again c.loop-port.invariant.0 c.serve.ensures.same,
-  c.serve.ensures.named ∙ c.loop-port.invariant.1,
-  c.serve.ensures.long ∙ c.loop-port.invariant.2,
+  (c.serve.ensures.places.0 ∙ c.loop-port.invariant.1.0, c.serve.ensures.places.1 ∙ c.loop-port.invariant.1.1),
   turns_more _ _ _ _ _ (laws g) (length c.args.flights.now.places.now) c.args.self.now c.args.log.now c.args.queue.now (elements c.args.flights.now)
-      c.loop-port.port c.loop-port.self c.loop-port.log c.loop-port.queue (elements c.loop-port.flights) c.loop-port.invariant.0 c.loop-port.auto.log c.loop-port.invariant.3
-      (length c.loop-port.flights.places.now) c.loop-port.invariant.2
+      c.loop-port.port c.loop-port.self c.loop-port.log c.loop-port.queue (elements c.loop-port.flights) c.loop-port.invariant.0 c.loop-port.auto.log c.loop-port.invariant.2
+      (length c.loop-port.flights.places.now) c.loop-port.invariant.1.1
       c.serve.new.self c.serve.new.log c.serve.new.queue (elements c.serve.new.flights) c.serve.ensures.turn,
 )
-
-pub returns : goal.returns
-returns g c = record {
-  same = c.loop-port.invariant.0;
-  turns =
-      let all : c.loop-port.port ≡ length (delays_of c.args.self.now.plan) = (let b = c.ports-port-end.ensures in omega arith) in
-      subst (λ k. Turns g.D.Discipline.waiting g.D.Discipline.sound g.D.Discipline.arrives g.D.Discipline.picks (length c.args.flights.now.places.now) k
-      c.args.self.now c.args.log.now c.args.queue.now (elements c.args.flights.now) c.loop-port.self c.loop-port.log c.loop-port.queue (elements c.loop-port.flights))
-      all c.loop-port.invariant.3;
-  named = c.loop-port.invariant.1;
-  long = c.loop-port.invariant.2;
-}
