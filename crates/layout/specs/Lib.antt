@@ -1,5 +1,6 @@
 pub mod Fields
 pub mod Contents
+pub mod Decoding
 pub mod Holding
 pub mod Order
 pub mod Canonical
