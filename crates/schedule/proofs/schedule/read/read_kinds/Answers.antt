@@ -58,7 +58,7 @@ invariant_of-result c =
       some_ports = omega arith;
       some_cells = omega arith;
       each_marked = marks.ok.0 ∙ g.marks ∙ sym g.cells;
-      marks_fit = ∣ (λ i l. g.marked i (omega arith)) ∣₁;
+      marks_fit = λ i l. g.marked i (omega arith);
     }
 
 pub returns : goal.returns
