@@ -2,7 +2,7 @@
 #![tactic(auto)]
 
 mod chain;
-mod gather;
+mod checked;
 mod head;
 mod image;
 mod marks;

@@ -2,10 +2,10 @@
 ghost use Rattle.std.specs.Prelude.{◌≡◌, ℕ, ◌+◌, ◌<◌, min, true, false, List, take, MatchResult, slice_index_or, slice_set};
 ghost use Rattle.refusal.specs.declared.Refusal.TheVariants.{BadChain};
 ghost use Rattle.layout.specs.Order.{reached};
-ghost use Rattle.schedule.specs.Chains.{Linked, Seen, Walked, Noted};
+ghost use Rattle.schedule.specs.Chains.{Seen, Walked, Noted};
 
 use crate::chain::Found;
-use crate::image::Image;
+use crate::checked::Checked;
 use refusal::Refusal;
 
 // Writes `x` at a place, where there is such a place.
@@ -68,20 +68,21 @@ fn reach(seen: &mut [bool; 2049], index: usize) -> Result<(), Refusal>
     Ok(())
 }
 
-// Walks along the chain of a cell to its end.
-pub(crate) fn walk(image: &Image, cell: usize, seen: &mut [bool; 2049]) -> Result<Found, Refusal>
-    requires linked { Linked image.now.bytes.now }
-    requires known { cell < image.now.head.cells }
-    requires seen { Seen seen.old (reached image.now.bytes.now cell) }
-    ensures { Walked image.now.bytes.now cell result seen.new }
-{
-    let mut found = Found::none();
-    let mut index = usize::from(image.cell(cell).first);
-    while index != 0 {
-        reach(seen, index)?;
-        let hop = image.hop(index);
-        found.note(hop.port, hop.sent);
-        index = usize::from(hop.next);
+impl Checked<'_> {
+    // Walks along the chain of a cell to its end.
+    pub(crate) fn walk(&self, cell: usize, seen: &mut [bool; 2049]) -> Result<Found, Refusal>
+        requires known { cell < self.now.image.head.cells }
+        requires seen { Seen seen.old (reached self.now.image.bytes.now cell) }
+        ensures { Walked self.now.image.bytes.now cell result seen.new }
+    {
+        let mut found = Found::none();
+        let mut index = usize::from(self.image.cell(cell).first);
+        while index != 0 {
+            reach(seen, index)?;
+            let hop = self.image.hop(index);
+            found.note(hop.port, hop.sent);
+            index = usize::from(hop.next);
+        }
+        Ok(found)
     }
-    Ok(found)
 }

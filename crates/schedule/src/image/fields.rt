@@ -1,23 +1,34 @@
 // The records of a file, and the tests of their fields.
 ghost use Rattle.std.specs.Prelude.{◌≡◌, ◌+◌, ◌<◌, ◌≤◌, ◌==◌};
 ghost use Rattle.layout.specs.Fields.{kind_at, delay_at};
-ghost use Rattle.schedule.specs.Heads.{Headed};
-ghost use Rattle.schedule.specs.Images.{raw_cell, raw_hop};
+ghost use Rattle.schedule.specs.Images.{ImageRead, raw_cell, raw_hop};
 
 use crate::head::Head;
 use crate::image::Image;
 use crate::numbers::{long_at, word_at};
 use crate::raw::{RawCell, RawHop};
-use layout::Kind;
+use layout::{Accepts, Kind, Pile};
+use refusal::Refusal;
 
 impl<'a> Image<'a> {
-    // The file, once its head has passed.
-    pub(crate) fn new(bytes: &'a [u8], head: Head) -> Image<'a>
-        requires { Headed bytes.now head }
-        ensures bytes { result.bytes.now ≡ bytes.now }
-        ensures head { result.head ≡ head }
+    // The tests of a file's head.
+    pub(crate) fn read(bytes: &'a [u8], accepts: Accepts) -> Result<Image<'a>, Refusal>
+        ensures { ImageRead accepts bytes.now result }
     {
-        Image { bytes, head }
+        let head = Head::read(bytes, accepts)?;
+        Ok(Image { bytes, head })
+    }
+
+    pub(crate) fn kind(&self) -> Kind
+        ensures { result ≡ self.now.head.kind }
+    {
+        self.head.kind
+    }
+
+    pub(crate) fn pile(&self) -> Pile
+        ensures { result ≡ self.now.head.pile }
+    {
+        self.head.pile
     }
 
     pub(crate) fn ports(&self) -> usize
@@ -41,7 +52,7 @@ impl<'a> Image<'a> {
     pub(crate) fn is_load(&self) -> bool
         ensures { result ≡ (kind_at self.now.bytes.now == 1) }
     {
-        matches!(self.head.kind, Kind::Load)
+        self.head.kind == Kind::Load
     }
 
     // The delay of a port.

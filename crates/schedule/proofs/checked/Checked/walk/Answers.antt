@@ -2,17 +2,18 @@ use Rattle.std.proofs.Common.{◌≡◌, ◌^◌, ◌<◌, length, set, ap, ◌�
 use Rattle.std.proofs.lemmas.Result.{err_from_is_err_and}
 use Rattle.layout.specs.Fields.{cell_count, first_at, next_at, port_at, sent_at}
 use Rattle.layout.specs.Order.{chain_of}
+use Rattle.schedule.proofs.Fielded.{linked}
 use Rattle.schedule.proofs.Chains.{walking_none, walking_more, walking_all, stops}
-use Rattle.schedule.proofs.chain.along.walk.Goals as goal
+use Rattle.schedule.proofs.checked.Checked.walk.Goals as goal
 
 pub loop-index-init : goal.loop-index-init
 loop-index-init c =
-    let bs = c.args.image.now.bytes.now in
+    let bs = c.args.self.now.image.bytes.now in
     let n = c.none-found.ensures bs (chain_of bs c.args.cell) in
     let first : c.from-index.result ≡ first_at bs c.args.cell = search rules in
     let known : c.args.cell < cell_count bs = search rules in
     let long : length c.args.seen.now ≡ 2049 = search rules in
-    walking_none bs c.args.cell _ _ c.args.seen.now c.none-found.result n.len first c.requires.linked known long c.requires.seen n
+    walking_none bs c.args.cell _ _ c.args.seen.now c.none-found.result n.len first (linked bs c.args.self.now.passed) known long c.requires.seen n
 
 pub returns-in_err-reach : goal.returns-in_err-reach
 returns-in_err-reach c =
@@ -27,7 +28,7 @@ returns-in_err-reach c =
 
 pub loop-index-preserved : goal.loop-index-preserved
 loop-index-preserved c =
-    let bs = c.args.image.now.bytes.now in
+    let bs = c.args.self.now.image.bytes.now in
     let i = c.loop-index.index in
     let w = c.loop-index.invariant in
     let more : 0 < i = omega arith in
@@ -42,7 +43,7 @@ loop-index-preserved c =
     let small : c.hop-hop.result.sent < 2 ^ 32 = search rules in
     let fits : sent_at bs i < 2 ^ 32 = omega arith in
     let f = c.loop-index.found in
-    walking_more bs c.args.cell f.len i c.loop-index.seen f _ _ c.note.new.self c.requires.linked w more in' h.0
+    walking_more bs c.args.cell f.len i c.loop-index.seen f _ _ c.note.new.self (linked bs c.args.self.now.passed) w more in' h.0
     next_is h.1 c.note.ensures.len
     (c.note.ensures.ports ∙ ap (set f.ports f.len) port_is)
     (c.note.ensures.sent ∙ ap (set f.sent f.len) sent_is) fits
