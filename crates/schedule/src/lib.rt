@@ -7,6 +7,7 @@ mod head;
 mod image;
 mod marks;
 mod numbers;
+mod order;
 mod raw;
 mod schedule;
 

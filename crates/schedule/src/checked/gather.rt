@@ -1,6 +1,6 @@
 // The plan and the marks that a file holds, gathered once all its fields have passed.
-ghost use Rattle.std.specs.Prelude.{◌≡◌, ◌+◌, ◌<◌, []};
-ghost use Rattle.refusal.specs.Tests.{tested, each_below};
+ghost use Rattle.std.specs.Prelude.{◌≡◌, ◌<◌, ◌≤◌, []};
+ghost use Rattle.refusal.specs.Tests.{tested};
 ghost use Rattle.plan.specs.Plans.{delays_of, cells_of};
 ghost use Rattle.layout.specs.Fields.{port_count};
 ghost use Rattle.layout.specs.Order.{reached, unreached_test};
@@ -10,6 +10,7 @@ ghost use Rattle.schedule.specs.Gathering.{FieldsTested, Opened, Ported, Gathere
 use crate::checked::Checked;
 use crate::image::Image;
 use crate::marks::Marks;
+use crate::order::test_each;
 use plan::Plan;
 use refusal::Refusal;
 use std::alloc::Global;
@@ -56,17 +57,17 @@ impl<'a> Checked<'a> {
         Ok(())
     }
 
-    // Refuses the lowest hop record that no chain has reached.
-    fn test_reached(&self, seen: &[bool; 2049]) -> Result<(), Refusal>
-        requires { Seen seen.now (reached self.now.image.bytes.now self.now.image.head.cells) }
-        ensures { result ≡ tested (each_below self.now.image.head.hops (λ k. unreached_test self.now.image.bytes.now (k + 1))) }
+    // Refuses a hop record that no chain has reached.
+    fn test_reached(&self, index: usize, seen: &[bool; 2049]) -> Result<(), Refusal>
+        requires known { index ≤ self.now.image.head.hops }
+        requires seen { Seen seen.now (reached self.now.image.bytes.now self.now.image.head.cells) }
+        ensures { result ≡ tested (unreached_test self.now.image.bytes.now index) }
     {
-        for k in 0..self.image.hops() {
-            if !seen[k + 1] {
-                return Err(Refusal::BadChain(k + 1));
-            }
+        if seen[index] {
+            Ok(())
+        } else {
+            Err(Refusal::BadChain(index))
         }
-        Ok(())
     }
 
     // Adds every cell to the plan, and gives their marks.
@@ -80,7 +81,7 @@ impl<'a> Checked<'a> {
         for cell in 0..self.image.cells() {
             self.gather_cell(cell, &mut seen, plan, &mut marks)?;
         }
-        self.test_reached(&seen)?;
+        test_each(self.image.hops(), |k| self.test_reached(k + 1, &seen))?;
         Ok(marks)
     }
 }

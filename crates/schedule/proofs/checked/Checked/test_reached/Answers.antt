@@ -14,22 +14,14 @@ flag_tells : (bs : List ℕ) (flags : List Bool) (n i : ℕ) (b : Bool) → n �
 flag_tells bs flags n i b e s l h =
     ap (λ x. when (not x) (BadChain i)) (ap (λ m. has (reached bs m) i) (sym e) ∙ sym (s i l) ∙ h)
 
-pub returns-then-not-seen-k : goal.returns-then-not-seen-k
-returns-then-not-seen-k c =
-    let bs = c.args.self.now.image.bytes.now in
-    let long : length c.args.seen.now ≡ 2049 = omega arith in
-    let limits = c.args.self.now.image.limits in
-    let end = c.hops-k-end.ensures in
-    let in' : c.loop-k.k + 1 < length c.args.seen.now = omega arith in
-    sym (ap tested (each_below_stops (λ k. unreached_test bs (k + 1)) c.loop-k.k c.args.self.now.image.head.hops (BadChain (c.loop-k.k + 1)) (omega arith) c.loop-k.invariant
-    (flag_tells bs c.args.seen.now c.args.self.now.image.head.cells (c.loop-k.k + 1) false c.args.self.now.image.cells_read c.requires in' c.if-not-seen-k.true)))
+pub returns-then-seen-index : goal.returns-then-seen-index
+returns-then-seen-index c =
+    let image = c.args.self.now.image in
+    let in' : c.args.index < length c.args.seen.now = omega arith in
+    sym (ap tested (flag_tells image.bytes.now c.args.seen.now image.head.cells c.args.index true image.cells_read c.requires.seen in' c.if-seen-index.true))
 
-pub loop-k-preserved : goal.loop-k-preserved
-loop-k-preserved c =
-    let bs = c.args.self.now.image.bytes.now in
-    let long : length c.args.seen.now ≡ 2049 = omega arith in
-    let limits = c.args.self.now.image.limits in
-    let end = c.hops-k-end.ensures in
-    let in' : c.loop-k.k + 1 < length c.args.seen.now = omega arith in
-    each_below_more (λ k. unreached_test bs (k + 1)) c.loop-k.k c.loop-k.invariant
-    (flag_tells bs c.args.seen.now c.args.self.now.image.head.cells (c.loop-k.k + 1) true c.args.self.now.image.cells_read c.requires in' c.if-not-seen-k.false)
+pub returns-else-seen-index : goal.returns-else-seen-index
+returns-else-seen-index c =
+    let image = c.args.self.now.image in
+    let in' : c.args.index < length c.args.seen.now = omega arith in
+    sym (ap tested (flag_tells image.bytes.now c.args.seen.now image.head.cells c.args.index false image.cells_read c.requires.seen in' c.if-seen-index.false))
