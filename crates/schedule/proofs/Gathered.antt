@@ -1,5 +1,5 @@
 -- One port, and one cell more of what has been gathered.
-use Rattle.std.proofs.Common.{◌≡◌, ℕ, ◌+◌, ◌<◌, ◌≤◌, min, not, leb, List, [], ◌∷◌, ◌++◌, map, length, get_or, take, None, Option, sym, ap, ◌∙◌, subst, inl, inr, arith, w32, SFits, to_z}
+use Rattle.std.proofs.Common.{◌≡◌, ℕ, ◌+◌, ◌<◌, ◌≤◌, not, leb, List, [], ◌∷◌, ◌++◌, map, length, get_or, None, Option, sym, ap, ◌∙◌, subst, inl, inr, arith, w32, SFits, to_z}
 use Rattle.std.proofs.lemmas.List.{length_push, get_or_append_left, get_or_push, length-map, get_or-map, take_all}
 use Rattle.std.proofs.lemmas.Bool.{cases_eq, le-leb, lt-leb, le-ltb, and_from}
 use Rattle.refusal.specs.Tests.{when, or_else, each_below, Refuses}

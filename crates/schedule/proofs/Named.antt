@@ -1,7 +1,5 @@
 -- Bytes that name no kind, or no discipline.
 use Rattle.std.proofs.Common.{◌≡◌, ℕ, ◌≢◌, true, false, ltb, arith}
-use Rattle.std.proofs.lemmas.Grind.{common_steps}
-use Rattle.plan.specs.Cells.{within}
 use Rattle.layout.specs.Contents.{kind_number, pile_number}
 use Rattle.layout.specs.Order.{takes}
 use Rattle.layout.specs.declared.kind.Accepts.{Accepts}

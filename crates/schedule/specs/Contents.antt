@@ -3,7 +3,7 @@ use Rattle.std.specs.Prelude.{◌≡◌, ℕ, zero, suc, ◌<◌, ◌≤◌, Lis
 use Rattle.std.proofs.Common.{sym, ap, subst, ◌∙◌, arith}
 use Rattle.std.proofs.lemmas.List.{get_or_default, get_or_read, get_or_past}
 use Rattle.plan.specs.Cells.{Planned, no_cell, hops_in, Cells}
-use Rattle.layout.specs.Contents.{Scheduled, Fit, Marked, no_hop, no_scheduled, plan_part, total_hops, kind_number, pile_number}
+use Rattle.layout.specs.Contents.{Fit, Marked, no_hop, no_scheduled, plan_part, total_hops, kind_number, pile_number}
 use Rattle.layout.specs.Fields.{kind_at, pile_at, cell_count}
 use Rattle.layout.specs.Holding.{Held, CellHeld}
 use Rattle.layout.specs.declared.kind.Kind.{Kind}

@@ -14,7 +14,7 @@ impl Image<'_> {
     {
         let delay = self.delay(port);
         if delay == 0 || delay > 255 {
-            return Err(Refusal::BadDelay(8 + 2 * port));
+            return Err(Refusal::BadDelay(self.port_offset(port)));
         }
         Ok(())
     }
@@ -23,7 +23,7 @@ impl Image<'_> {
         requires { cell < self.now.head.cells }
         ensures { result ≡ tested (cell_fields self.now.bytes.now cell) }
     {
-        let at = 8 + 2 * self.head.ports + 10 * cell;
+        let at = self.cell_offset(cell);
         let raw = self.cell(cell);
         if raw.flow > 7 {
             return Err(Refusal::BadFlow(cell));
@@ -44,7 +44,7 @@ impl Image<'_> {
         requires { (0 < index) × (index ≤ self.now.head.hops) }
         ensures { result ≡ tested (hop_fields self.now.bytes.now index) }
     {
-        let at = 8 + 2 * self.head.ports + 10 * self.head.cells + 8 * (index - 1);
+        let at = self.hop_offset(index);
         let raw = self.hop(index);
         let next = usize::from(raw.next);
         if next != 0 && (next <= index || next > self.head.hops) {

@@ -1,4 +1,4 @@
-use Rattle.std.proofs.Common.{◌+◌, ◌*◌, get_or, ap, ◌∙◌, arith}
+use Rattle.std.proofs.Common.{◌+◌, ◌*◌, ◌∙◌, arith}
 use Rattle.schedule.proofs.Parts.{in_part}
 use Rattle.layout.specs.Fields.{word}
 use Rattle.schedule.proofs.numbers.word_at.Goals as goal

@@ -1,7 +1,6 @@
-use Rattle.std.proofs.Common.{◌≡◌, ℕ, ◌+◌, ◌<◌, Bool, true, false, not, List, length, get_or, sym, ap, ◌∙◌, arith}
+use Rattle.std.proofs.Common.{◌≡◌, ℕ, ◌<◌, Bool, true, false, not, List, length, get_or, sym, ap, ◌∙◌, arith}
 use Rattle.refusal.specs.Tests.{when, tested}
 use Rattle.refusal.specs.declared.Refusal.TheVariants.{BadChain}
-use Rattle.refusal.proofs.Ordered.{each_below_more, each_below_stops}
 use Rattle.plan.specs.Cells.{has}
 use Rattle.layout.specs.Fields.{cell_count}
 use Rattle.layout.specs.Order.{reached, unreached_test}

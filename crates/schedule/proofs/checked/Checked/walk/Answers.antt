@@ -42,11 +42,13 @@ loop-index-preserved c =
     let next_is : c.from-index-in-loop-index.result ≡ next_at bs i = c.from-index-in-loop-index.ensures ∙ ap (λ x. x.next) r in
     let small : c.hop-hop.result.sent < 2 ^ 32 = search rules in
     let fits : sent_at bs i < 2 ^ 32 = omega arith in
-    let f = c.loop-index.found in
-    (_, walking_more bs c.args.cell c.loop-index.invariant.0 i c.loop-index.seen f _ _ c.note.new.self (linked bs c.args.self.now.passed) w more in' h.0
-    next_is h.1
-    (c.note.ensures.ports ∙ ap (λ p. take 9 (f.ports.items ++ p ∷ [])) port_is)
-    (c.note.ensures.sent ∙ ap (set f.sent (length f.ports.items)) sent_is) fits)
+    let f = c.loop-index.found in (
+      _,
+      walking_more bs c.args.cell c.loop-index.invariant.0 i c.loop-index.seen f _ _ c.note.new.self (linked bs c.args.self.now.passed) w more in' h.0
+          next_is h.1
+          (c.note.ensures.ports ∙ ap (λ p. take 9 (f.ports.items ++ p ∷ [])) port_is)
+          (c.note.ensures.sent ∙ ap (set f.sent (length f.ports.items)) sent_is) fits,
+    )
 
 pub loop-index-smaller : goal.loop-index-smaller
 loop-index-smaller c =
