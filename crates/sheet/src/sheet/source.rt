@@ -18,34 +18,28 @@ impl Source for Sheet {
     }
 
     fn ports(&self) -> usize {
-        self.ports
+        self.delays.len()
     }
 
     fn delay(&self, port: usize) -> u8 {
-        if port < self.ports {
-            self.delays[port]
-        } else {
-            0
-        }
+        self.delays.get(port).copied().unwrap_or_default()
     }
 
     fn cells(&self) -> usize {
-        self.cells
+        self.rows.len()
     }
 
     fn cell(&self, cell: usize) -> CellFields {
-        if cell < self.cells {
-            self.rows[cell].fields
-        } else {
-            CellFields::default()
+        match self.rows.get(cell) {
+            Some(row) => row.fields(),
+            None => CellFields::default(),
         }
     }
 
     fn hop(&self, cell: usize, position: usize) -> HopFields {
-        if cell < self.cells && position < self.rows[cell].fields.hops {
-            self.rows[cell].hops[position]
-        } else {
-            HopFields::default()
+        match self.rows.get(cell) {
+            Some(row) => row.hops.get(position).copied().unwrap_or_default(),
+            None => HopFields::default(),
         }
     }
 
