@@ -1,9 +1,7 @@
 -- Rows and their hops, by index.
-use Rattle.std.proofs.Common.{◌≡◌, ℕ, zero, suc, ◌<◌, ◌≤◌, ◌≢◌, List, [], ◌∷◌, map, length, get_or, take, set, sym, ap, ◌∙◌, arith, w32, SFits}
-use Rattle.std.proofs.lemmas.List.{length-map, length-take-le, get_or-map, get_or-take, get_or_past, get_or-set_same, get_or-set_other, map-set, take-map}
-use Rattle.layout.specs.Contents.{no_hop, no_scheduled}
-use Rattle.layout.specs.declared.fields.HopFields.{HopFields}
-use Rattle.sheet.specs.Rows.{hop_of, scheduled}
+use Rattle.std.proofs.Common.{ℕ, zero, suc, ◌<◌, List, [], ◌∷◌, map, length, get_or, arith, w32, SFits}
+use Rattle.layout.specs.Contents.{no_scheduled}
+use Rattle.sheet.specs.Rows.{scheduled}
 use Rattle.sheet.specs.declared.row.Row.{Row}
 
 -- every slack has 32 bits

@@ -1,6 +1,7 @@
 // A sheet tells its content to the writer.
 ghost use Rattle.sheet.specs.Sheets.{content_of};
 
+use crate::row::Row;
 use crate::sheet::Sheet;
 use layout::{CellFields, HopFields, Kind, Pile, Source};
 
@@ -30,17 +31,15 @@ impl Source for Sheet {
     }
 
     fn cell(&self, cell: usize) -> CellFields {
-        match self.rows.get(cell) {
-            Some(row) => row.fields(),
-            None => CellFields::default(),
-        }
+        self.rows.get(cell).map(Row::fields).unwrap_or_default()
     }
 
     fn hop(&self, cell: usize, position: usize) -> HopFields {
-        match self.rows.get(cell) {
-            Some(row) => row.hops.get(position).copied().unwrap_or_default(),
-            None => HopFields::default(),
-        }
+        self.rows
+            .get(cell)
+            .and_then(|row| row.hops.get(position))
+            .copied()
+            .unwrap_or_default()
     }
 
     fn hops(&self) -> usize {

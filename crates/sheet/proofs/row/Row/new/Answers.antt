@@ -1,9 +1,8 @@
-use Rattle.std.proofs.Common.{◌≡◌, ℕ, ◌<◌, min, map, length, get_or, refl, ap, ◌∙◌, arith, w32}
+use Rattle.std.proofs.Common.{◌≡◌, min, length, get_or, ap, ◌∙◌, arith, w32}
 use Rattle.std.proofs.lemmas.List.{length-map}
 use Rattle.std.proofs.lemmas.Int.{to_z-of_z}
 use Rattle.std.proofs.lemmas.Slice.Zip.{zip_end}
 use Rattle.plan.specs.Cells.{ports_of}
-use Rattle.layout.specs.Contents.{no_hop}
 use Rattle.sheet.specs.Rows.{hop_of}
 use Rattle.sheet.proofs.row.Row.new.Goals as goal
 

@@ -1,11 +1,7 @@
-use Rattle.std.proofs.Common.{◌≡◌, ℕ, ◌≤◌, ◌||◌, eqb, ltb, map, length, None, ap, ◌∙◌, subst, arith, rules}
-use Rattle.std.proofs.lemmas.List.{length-map}
+use Rattle.std.proofs.Common.{◌≡◌, ℕ, ◌≤◌, ◌||◌, eqb, ltb, map, None, ◌∙◌, subst, arith}
 use Rattle.std.proofs.lemmas.Bool.{ne_eqb, le-ltb}
 use Rattle.refusal.specs.Tests.{when, or_else}
 use Rattle.refusal.specs.declared.Refusal.TheVariants.{NoCells, NoPlace}
-use Rattle.plan.specs.Cells.{planned, hops_in}
-use Rattle.plan.specs.Plans.{cells_of}
-use Rattle.plan.proofs.Facts.{few_ports_lem, few_cells_lem}
 use Rattle.sheet.specs.Rows.{scheduled}
 use Rattle.sheet.specs.Sheets.{RowsTold}
 use Rattle.sheet.proofs.Made.{tells, all_hops, fit}
