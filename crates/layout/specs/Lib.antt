@@ -1,8 +1,10 @@
 pub mod Fields
 pub mod Contents
+pub mod Decoding
 pub mod Holding
 pub mod Order
 pub mod Canonical
 pub mod RoundTrip
 pub mod Sources
 pub mod Placed
+pub mod Words

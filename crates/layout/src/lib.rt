@@ -7,6 +7,6 @@ mod source;
 mod writer;
 
 pub use fields::{CellFields, HopFields};
-pub use kind::{Accepts, Kind, Pile};
+pub use kind::{Accepts, Kind, Pile, UnknownByte};
 pub use source::Source;
 pub use writer::{file_length, write};

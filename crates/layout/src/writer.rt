@@ -2,13 +2,12 @@
 ghost use Rattle.std.specs.Prelude.{◌≡◌, ◌+◌, ◌<◌, ◌≤◌, length, if◌then◌else◌, nat_lt};
 ghost use Rattle.std.specs.List.{flat_map};
 ghost use Rattle.layout.specs.Canonical.{word_bytes, cell_bytes, hop_bytes, cell_records, route_records, hop_records, head_bytes, canonical_length};
-ghost use Rattle.layout.specs.Contents.{kind_number, pile_number, total_hops};
+ghost use Rattle.layout.specs.Contents.{total_hops};
 ghost use Rattle.layout.specs.Fields.{file_length};
 ghost use Rattle.layout.specs.Placed.{placed, cells_start, hop_start, hops_of};
 ghost use Rattle.layout.specs.RoundTrip.{ReadsBack, Written};
 
 use crate::fields::{CellFields, HopFields};
-use crate::kind::{Kind, Pile};
 use crate::source::Source;
 use refusal::Refusal;
 
@@ -52,38 +51,17 @@ fn put(out: &mut [u8], at: usize, bytes: &[u8])
     out[at..at + bytes.len()].copy_from_slice(bytes);
 }
 
-// The first byte of a file.
-fn kind_byte(kind: Kind) -> u8
-    ensures { result ≡ kind_number kind }
-{
-    match kind {
-        Kind::Load => 1,
-        Kind::Recording => 2,
-        Kind::Replay => 3,
-    }
-}
-
-// The second byte of a file.
-fn pile_byte(pile: Pile) -> u8
-    ensures { result ≡ pile_number pile }
-{
-    match pile {
-        Pile::Fifo => 0,
-        Pile::Lifo => 1,
-        Pile::Aged => 2,
-    }
-}
-
 // The head of a file: kind, pile, and how many ports, cells and hops follow.
 fn head<S: Source>(s: &S) -> [u8; 8]
     ensures { result ≡ head_bytes (S.content s.now) }
 {
+    // By `as`, which is proved to lose nothing: a `u16::try_from` would ask for an answer to an error that never comes.
     let [p0, p1] = (s.ports() as u16).to_be_bytes();
     let [c0, c1] = (s.cells() as u16).to_be_bytes();
     let [h0, h1] = (s.hops() as u16).to_be_bytes();
     [
-        kind_byte(s.kind()),
-        pile_byte(s.pile()),
+        u8::from(s.kind()),
+        u8::from(s.pile()),
         p0,
         p1,
         c0,
@@ -114,6 +92,7 @@ fn put_cells<S: Source>(s: &S, out: &mut [u8])
     for c in 0..s.cells() {
         let cell = s.cell(c);
         put(out, bytes_for(ports, c, 0), &cell_record(cell, first));
+        // By `as`, which is proved to lose nothing, as in `head`.
         first += cell.hops as u16;
     }
 }
@@ -162,6 +141,7 @@ fn next_index(first: usize, position: usize, hops: usize) -> u16
     ensures { result ≡ (if nat_lt (position + 1) hops then first + position + 1 else 0) }
 {
     if position + 1 < hops {
+        // By `as`, which is proved to lose nothing, as in `head`.
         (first + position + 1) as u16
     } else {
         0

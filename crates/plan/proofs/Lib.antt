@@ -1,4 +1,3 @@
-pub mod Anywhere
 pub mod Facts
 pub mod Growth
 pub mod Passed

@@ -1,5 +1,6 @@
 -- Cells and routes as numbers and lists, and what every plan keeps of them.
 use Rattle.std.specs.Prelude.{ℕ, ◌+◌, ◌-◌, ◌<◌, ◌≤◌, Bool, false, not, ◌&&◌, ◌||◌, List, [], ◌∷◌, map, length, take, sum, Option, ◌==◌, ◌≢◌, nat_le, nat_lt, slice_index, slice_index_or}
+use Rattle.std.specs.List.{list_any}
 use Rattle.refusal.specs.Tests.{when, or_else}
 use Rattle.refusal.specs.declared.Refusal.{Refusal}
 use Rattle.refusal.specs.declared.Refusal.TheVariants.{BadDelay, BadRouteLength, UnknownPort, PortTwice, BadFlow, PlanFull}
@@ -43,13 +44,11 @@ Cells n cs = (k : ℕ) → k < length cs → Fitting n (slice_index_or cs k no_c
 
 -- whether a list has a number
 abbrev pub has : List ℕ → ℕ → Bool
-has [] x = false
-has (y ∷ ys) x = y == x || has ys x
+has xs x = list_any (λ y. y == x) xs
 
 -- whether a route names a port that is not among the n ports
 abbrev pub names_unknown : ℕ → List ℕ → Bool
-names_unknown n [] = false
-names_unknown n (p ∷ ps) = nat_le n p || names_unknown n ps
+names_unknown n ps = list_any (nat_le n) ps
 
 -- whether a route names a port twice
 abbrev pub names_twice : List ℕ → Bool

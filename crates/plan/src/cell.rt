@@ -4,6 +4,7 @@ mod parts;
 ghost use Rattle.std.specs.Prelude.{◌≤◌};
 
 // The ports that a cell crosses, in their order: at most 8, so a route needs no memory of its own.
+// An array with its length, since a cell is copied, and an `ArrayVec` cannot be.
 #[derive(Clone, Copy)]
 pub struct Route {
     ports: [u8; 8],

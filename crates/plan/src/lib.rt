@@ -24,19 +24,18 @@ mod tests {
         Ok(plan)
     }
 
-    // Whether the call was refused with this number and place.
-    fn refused(answer: Result<usize, Refusal>, number: u8, place: usize) -> bool {
-        match answer {
-            Ok(_) => false,
-            Err(refusal) => refusal.number() == number && refusal.place() == place,
-        }
+    // The number and the place of a refusal, if the call was refused.
+    fn refused(answer: Result<usize, Refusal>) -> Option<(u8, usize)> {
+        answer
+            .err()
+            .map(|refusal| (refusal.number(), refusal.place()))
     }
 
     #[test]
     fn delays_end_at_255(rt: HostRuntime) -> Result<(), Fail> {
         let mut plan = Plan::new(rt.alloc());
-        assert!(rt; refused(plan.add_port(256), 4, 0));
-        assert!(rt; refused(plan.add_port(0), 4, 0));
+        assert!(rt; refused(plan.add_port(256)) == Some((4, 0)));
+        assert!(rt; refused(plan.add_port(0)) == Some((4, 0)));
         assert!(rt; plan.ports() == 0);
         plan.add_port(255)?;
         assert!(rt; plan.delay(0) == Some(255));
@@ -47,10 +46,10 @@ mod tests {
     fn routes_are_tested(rt: HostRuntime) -> Result<(), Fail> {
         let mut plan = ported(rt.alloc(), &[3; 9])?;
         plan.add_cell(40, 7, &[8, 7, 6, 5, 4, 3, 2, 1])?;
-        assert!(rt; refused(plan.add_cell(0, 0, &[8, 7, 6, 5, 4, 3, 2, 1, 0]), 7, 1));
-        assert!(rt; refused(plan.add_cell(0, 0, &[4, 9]), 8, 1));
-        assert!(rt; refused(plan.add_cell(0, 0, &[4, 2, 4]), 9, 1));
-        assert!(rt; refused(plan.add_cell(0, 8, &[4]), 10, 1));
+        assert!(rt; refused(plan.add_cell(0, 0, &[8, 7, 6, 5, 4, 3, 2, 1, 0])) == Some((7, 1)));
+        assert!(rt; refused(plan.add_cell(0, 0, &[4, 9])) == Some((8, 1)));
+        assert!(rt; refused(plan.add_cell(0, 0, &[4, 2, 4])) == Some((9, 1)));
+        assert!(rt; refused(plan.add_cell(0, 8, &[4])) == Some((10, 1)));
         assert!(rt; plan.cells() == 1 && plan.hops() == 8);
         Ok(())
     }
@@ -61,8 +60,8 @@ mod tests {
         for _ in 0..256 {
             plan.add_cell(0, 0, &[31])?;
         }
-        assert!(rt; refused(plan.add_port(1), 11, 32));
-        assert!(rt; refused(plan.add_cell(0, 0, &[31]), 11, 256));
+        assert!(rt; refused(plan.add_port(1)) == Some((11, 32)));
+        assert!(rt; refused(plan.add_cell(0, 0, &[31])) == Some((11, 256)));
         assert!(rt; plan.ports() == 32 && plan.cells() == 256);
         Ok(())
     }

@@ -3,6 +3,7 @@ mod build;
 mod questions;
 
 ghost use Rattle.std.specs.Prelude.{◌≤◌, map, vec_len};
+ghost use Rattle.std.proofs.Props.{props};
 ghost use Rattle.plan.specs.Cells.{planned, Delays, Cells};
 
 use crate::cell::Cell;
@@ -16,5 +17,5 @@ pub struct Plan {
     ghost few_ports: { vec_len delays ≤ 32 },
     ghost few_cells: { vec_len cells ≤ 256 },
     ghost delays_fit: { Delays delays.items },
-    ghost cells_fit: { ∥ Cells (vec_len delays) (map planned cells.items) ∥₁ },
+    ghost cells_fit: { Cells (vec_len delays) (map planned cells.items) } by { Prim.hlevel props },
 }

@@ -1,7 +1,7 @@
 // The tests of a route.
 ghost use Rattle.std.specs.Prelude.{◌≡◌};
 ghost use Rattle.refusal.specs.Tests.{tested};
-ghost use Rattle.plan.specs.Cells.{has, names_unknown, names_twice, route_test};
+ghost use Rattle.plan.specs.Cells.{names_unknown, names_twice, route_test};
 
 use refusal::Refusal;
 
@@ -11,36 +11,17 @@ const MOST_HOPS: usize = 8;
 fn has_unknown(route: &[u8], ports: usize) -> bool
     ensures { result ≡ names_unknown ports route.now }
 {
-    for p in route {
-        if usize::from(*p) >= ports {
-            return true;
-        }
-    }
-    false
-}
-
-// Whether the route names `port`.
-fn has_port(route: &[u8], port: u8) -> bool
-    ensures { result ≡ has route.now port }
-{
-    for p in route {
-        if *p == port {
-            return true;
-        }
-    }
-    false
+    route.iter().any(|port| usize::from(*port) >= ports)
 }
 
 // Whether the route names some port twice.
 fn has_twice(route: &[u8]) -> bool
     ensures { result ≡ names_twice route.now }
 {
-    for i in 0..route.len() {
-        if has_port(&route[i + 1..], route[i]) {
-            return true;
-        }
+    match route {
+        [] => false,
+        [port, rest @ ..] => rest.contains(port) || has_twice(rest),
     }
-    false
 }
 
 // Refuses a route for the cell with the number `cell`, in a plan of `ports` ports.

@@ -15,8 +15,6 @@ const MOST_PORTS: usize = 32;
 
 const MOST_CELLS: usize = 256;
 
-const LONGEST_DELAY: u16 = 255;
-
 const LAST_FLOW: u8 = 7;
 
 impl Plan {
@@ -34,13 +32,14 @@ impl Plan {
         ensures { PortAdded self.old delay result self.new }
     {
         let port = self.ports();
-        if delay == 0 || delay > LONGEST_DELAY {
-            return Err(Refusal::BadDelay(port));
-        }
+        let delay = match u8::try_from(delay) {
+            Ok(delay) if delay > 0 => delay,
+            _ => return Err(Refusal::BadDelay(port)),
+        };
         if port >= MOST_PORTS {
             return Err(Refusal::PlanFull(port));
         }
-        self.delays.push(delay as u8)?;
+        self.delays.push(delay)?;
         Ok(port)
     }
 

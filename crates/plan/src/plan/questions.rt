@@ -1,10 +1,17 @@
 // What can be asked of a plan.
-ghost use Rattle.std.specs.Prelude.{◌≡◌, map, length, get_or, slice_index, slice_index_or};
+ghost use Rattle.std.specs.Prelude.{◌≡◌, ◌<◌, ◌≤◌, map, length, get_or, slice_index, slice_index_or};
 ghost use Rattle.plan.specs.Cells.{planned, no_cell, Routed, travel, hops_in};
 ghost use Rattle.plan.specs.Plans.{delays_of, cells_of, Asked};
 
 use crate::cell::Cell;
 use crate::plan::Plan;
+
+// How many hops a cell has.
+fn hops_of(cell: &Cell) -> usize
+    ensures { result ≡ length (planned cell.now).route }
+{
+    cell.route().ports().len()
+}
 
 impl Plan {
     // How many ports the plan has.
@@ -53,11 +60,16 @@ impl Plan {
     pub fn hops(&self) -> usize
         ensures { result ≡ hops_in (cells_of self.now) }
     {
-        let mut hops = 0;
-        for cell in self.all_cells() {
-            hops += cell.route().ports().len();
-        }
-        hops
+        self.cells.iter().map(hops_of).sum()
+    }
+
+    // The delay of a port of the plan.
+    fn slots_to(&self, port: u8) -> u32
+        requires { port < length (delays_of self.now) }
+        ensures value { result ≡ slice_index (delays_of self.now) port }
+        ensures few { result ≤ 255 }
+    {
+        u32::from(self.delays[usize::from(port)])
     }
 
     // The delays of a route's ports without the last.
@@ -65,11 +77,10 @@ impl Plan {
         requires { Routed (length (delays_of self.now)) ports.now }
         ensures { result ≡ travel (delays_of self.now) ports.now }
     {
-        let mut slots = 0;
-        for port in &ports[0..ports.len() - 1] {
-            slots += u32::from(self.delays[usize::from(*port)]);
-        }
-        slots
+        ports[..ports.len() - 1]
+            .iter()
+            .map(|port| self.slots_to(*port))
+            .sum()
     }
 
     // How many slots a cell travels at least, or none past the last cell.

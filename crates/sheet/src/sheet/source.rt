@@ -1,18 +1,17 @@
 // A sheet tells its content to the writer.
 ghost use Rattle.sheet.specs.Sheets.{content_of};
-ghost use Rattle.std.proofs.Math.Logic.{∥∥₁_elim};
-ghost use Rattle.sheet.specs.Fitting.{fit_prop};
 
+use crate::row::Row;
 use crate::sheet::Sheet;
 use layout::{CellFields, HopFields, Kind, Pile, Source};
 
 impl Source for Sheet {
     ghost content = { content_of };
 
-    ghost fits = { λ s. ∥∥₁_elim s.fit (fit_prop (content_of s)) (λ h. h) };
+    ghost fits = { λ s. s.fit };
 
     fn kind(&self) -> Kind {
-        self.run.kind()
+        self.run.into()
     }
 
     fn pile(&self) -> Pile {
@@ -20,40 +19,27 @@ impl Source for Sheet {
     }
 
     fn ports(&self) -> usize {
-        self.ports
+        self.delays.len()
     }
 
     fn delay(&self, port: usize) -> u8 {
-        if port < self.ports {
-            self.delays[port]
-        } else {
-            0
-        }
+        self.delays.get(port).copied().unwrap_or_default()
     }
 
     fn cells(&self) -> usize {
-        self.cells
+        self.rows.len()
     }
 
     fn cell(&self, cell: usize) -> CellFields {
-        if cell < self.cells {
-            self.rows[cell].fields
-        } else {
-            CellFields {
-                entry: 0,
-                flow: 0,
-                slack: 0,
-                hops: 0,
-            }
-        }
+        self.rows.get(cell).map(Row::fields).unwrap_or_default()
     }
 
     fn hop(&self, cell: usize, position: usize) -> HopFields {
-        if cell < self.cells && position < self.rows[cell].fields.hops {
-            self.rows[cell].hops[position]
-        } else {
-            HopFields { port: 0, sent: 0 }
-        }
+        self.rows
+            .get(cell)
+            .and_then(|row| row.hops.get(position))
+            .copied()
+            .unwrap_or_default()
     }
 
     fn hops(&self) -> usize {

@@ -1,7 +1,7 @@
 use Rattle.std.proofs.Common.{sym, refl, arith, rules}
 use Rattle.layout.proofs.Placing.{placed_none}
 use Rattle.layout.proofs.Limits.{before_few, total_few}
-use Rattle.layout.proofs.Steps.{total_more, cells_more, cells_all}
+use Rattle.layout.proofs.Steps.{total_more, cells_more}
 use Rattle.layout.proofs.writer.put_cells.Goals as goal
 
 pub loop-c-init : goal.loop-c-init
@@ -28,7 +28,3 @@ loop-c-preserved g c =
       cells_more (g.S.Source.content c.args.s.now) c.args.out.now c.loop-c.c c.cell-cell.result (omega arith) c.requires
           c.loop-c.invariant.1 c.put.ensures (omega arith) c.loop-c.invariant.0 c.cell-cell.ensures c.cell_record.ensures,
     )
-
-pub returns : goal.returns
-returns g c =
-    cells_all (g.S.Source.content c.args.s.now) c.args.out.now c.loop-c.c (omega arith) c.loop-c.invariant.1

@@ -1,7 +1,7 @@
 use Rattle.std.proofs.Common.{sym, refl, arith, rules}
 use Rattle.layout.proofs.Placing.{placed_none}
 use Rattle.layout.proofs.Limits.{before_few, total_few}
-use Rattle.layout.proofs.Steps.{total_more, hops_more, hops_all}
+use Rattle.layout.proofs.Steps.{total_more, hops_more}
 use Rattle.layout.proofs.writer.put_hops.Goals as goal
 
 pub loop-c-init : goal.loop-c-init
@@ -30,7 +30,3 @@ loop-c-preserved g c =
       omega arith,
       hops_more x c.args.out.now c.loop-c.c c.loop-c.before (omega arith) (omega arith) c.loop-c.invariant.1 c.put_route.ensures c.loop-c.invariant.0,
     )
-
-pub returns : goal.returns
-returns g c =
-    hops_all (g.S.Source.content c.args.s.now) c.args.out.now c.loop-c.c (omega arith) c.loop-c.invariant.1

@@ -1,5 +1,4 @@
-use Rattle.std.proofs.Common.{ℕ, List, [], ◌∷◌, ◌++◌, map, length, vec_items, vec_len, Option, sym, refl, ap, ◌∙◌, subst, arith}
-use Rattle.std.proofs.lemmas.List.{map_push}
+use Rattle.std.proofs.Common.{ℕ, List, map, length, vec_items, vec_len, Option, sym, refl, subst, arith}
 use Rattle.std.proofs.lemmas.Result.{err_from_is_err_and}
 use Rattle.refusal.specs.declared.Refusal.{Refusal}
 use Rattle.refusal.proofs.Ordered.{tested_passes, tested_refuses}
@@ -33,21 +32,5 @@ invariant_of-self c =
       few_ports = p.few_ports;
       few_cells = omega (arith, fits.1, count_cells p);
       delays_fit = p.delays_fit;
-      cells_fit = ∣ kept ∣₁;
+      cells_fit = kept;
     }
-
-pub returns-in_err-push : goal.returns-in_err-push
-returns-in_err-push c =
-    let p = c.args.self.now in
-    let passed = tested_passes (tests_of p c.args.flow c.args.route.now) _ c.in_ok-test_cell.ensures in
-    let same = ap (map planned) {x = vec_items c.push.new.self} {y = vec_items p.cells} c.in_err-push.ensures.items in
-    let e = err_from_is_err_and c.from_residual-in_err-push.result c.from_residual-in_err-push.ensures.1 in
-    rw (e.1, e.2, passed) (refl, record { delays = refl; cells = same })
-
-pub returns : goal.returns
-returns c =
-    let p = c.args.self.now in
-    let passed = tested_passes (tests_of p c.args.flow c.args.route.now) _ c.in_ok-test_cell.ensures in
-    let pushed = ap (map planned) {x = vec_items c.push.new.self} {y = vec_items p.cells ++ c.new.result ∷ []} c.in_ok-push.ensures.items in
-    let more = map_push planned (vec_items p.cells) c.new.result in
-    (passed, c.cells-cell.ensures, record { delays = refl; cells = pushed ∙ more ∙ ap (λ x. cells_of p ++ x ∷ []) c.new.ensures })
