@@ -31,5 +31,5 @@ pub fn outcome(
     if cell >= recording.plan().cells() {
         return Err(Refusal::UnknownItem);
     }
-    Ok(Ended::new(recording, log)?.fared(cell))
+    Ok(Ended::new(recording, log)?.fared(cell).unwrap())
 }

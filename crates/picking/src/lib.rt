@@ -45,11 +45,7 @@ mod tests {
     // Slack 3 since slot 0 is due before slack 2 since slot 2: the due slot decides, not the slack.
     #[test]
     fn due_slots_decide(rt: HostRuntime) -> Result<(), Fail> {
-        let mut places = [DueCell {
-            port: 0,
-            due: 0,
-            cell: 0,
-        }; 256];
+        let mut places = [DueCell::default(); 256];
         assert!(rt; LeastSlack::test(&places).is_ok());
         let mut queue = LeastSlack::new(&mut places);
         queue.arrive(0, 7, 0, 0, 3)?;
@@ -71,11 +67,7 @@ mod tests {
         fifo.arrive(3, 4, 0, 0, 0)?;
         assert!(rt; refused(Ageing::test(65535, &fifo), 23));
         assert!(rt; refused(Classes::test(8, &fifo, &fifo), 23));
-        let few = [DueCell {
-            port: 0,
-            due: 0,
-            cell: 0,
-        }; 255];
+        let few = [DueCell::default(); 255];
         assert!(rt; refused(LeastSlack::test(&few), 21));
         Ok(())
     }

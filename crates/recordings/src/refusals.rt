@@ -17,8 +17,8 @@ fn number<T: Drop>(answer: Result<T, Refusal>) -> Option<u8> {
 
 #[test]
 fn seals_are_tested(rt: HostRuntime) -> Result<(), Fail> {
-    let flights = [Flight { slot: 0, cell: 0 }; 2];
-    let log = [HopRecord { sent: None }; 3];
+    let flights = [Flight::default(); 2];
+    let log = [HopRecord::default(); 3];
     let mut queue = Fifo::new();
     let empty = planned(rt.alloc(), &[1], &[])?;
     assert!(rt; number(Recording::test_seal(&empty, &flights, &log, &queue)) == Some(12));
@@ -45,8 +45,8 @@ fn seals_are_tested(rt: HostRuntime) -> Result<(), Fail> {
 
 #[test]
 fn nothing_is_told_before_the_end(rt: HostRuntime) -> Result<(), Fail> {
-    let mut flights = [Flight { slot: 0, cell: 0 }; 1];
-    let mut log = [HopRecord { sent: None }; 2];
+    let mut flights = [Flight::default(); 1];
+    let mut log = [HopRecord::default(); 2];
     let mut out = [7; 38];
     let mut queue = Fifo::new();
     let cells = [Load {
@@ -71,9 +71,9 @@ fn nothing_is_told_before_the_end(rt: HostRuntime) -> Result<(), Fail> {
 
 #[test]
 fn memory_and_the_end_are_tested(rt: HostRuntime) -> Result<(), Fail> {
-    let mut flights = [Flight { slot: 0, cell: 0 }; 1];
-    let mut log = [HopRecord { sent: None }; 2];
-    let mut short = [HopRecord { sent: None }; 1];
+    let mut flights = [Flight::default(); 1];
+    let mut log = [HopRecord::default(); 2];
+    let mut short = [HopRecord::default(); 1];
     let mut small = [7; 37];
     let mut out = [7; 38];
     let mut queue = Fifo::new();

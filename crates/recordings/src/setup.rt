@@ -47,8 +47,8 @@ pub(crate) fn record_all<D: Discipline>(
     queue: &mut D,
 ) -> Result<Told, Refusal> {
     let plan = planned(heap, delays, cells)?;
-    let mut flights = [Flight { slot: 0, cell: 0 }; 8];
-    let mut log = [HopRecord { sent: None }; 24];
+    let mut flights = [Flight::default(); 8];
+    let mut log = [HopRecord::default(); 24];
     Recording::test_seal(&plan, &flights, &log, queue)?;
     let mut recording = Recording::seal(plan, Pile::Fifo, &mut flights, &mut log, queue);
     recording.slots(1000, &mut flights, &mut log, queue);

@@ -51,8 +51,8 @@ fn record<D: Discipline>(
     pile: Pile,
     queue: &mut D,
 ) -> Result<Recorded, Refusal> {
-    let mut flights = vec![in heap; Flight { slot: 0, cell: 0 }; CELLS]?;
-    let mut log = vec![in heap; HopRecord { sent: None }; HOPS]?;
+    let mut flights = vec![in heap; Flight::default(); CELLS]?;
+    let mut log = vec![in heap; HopRecord::default(); HOPS]?;
     let mut file = vec![in heap; 0u8; 19_016]?;
     Recording::test_seal(&plan, &flights, &log, queue)?;
     let mut recording = Recording::seal(plan, pile, &mut flights, &mut log, queue);

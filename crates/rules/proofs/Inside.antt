@@ -16,7 +16,7 @@ use Rattle.rules.specs.Rules.{Arrives, Sends, goes_on, onward}
 use Rattle.rules.specs.declared.condition.Condition.{Condition}
 use Rattle.rules.proofs.Disciplines.{Laws}
 use Rattle.rules.specs.declared.condition.Condition.TheVariants as is
-use Rattle.rules.specs.declared.condition.Event.TheVariants.{Arrive, Forward, LetOut}
+use Rattle.rules.specs.declared.condition.Event.TheVariants.{Arrive, SentOnward, SentOut}
 
 -- the same slots of one cell, up to its last hop
 module _ (N : Network) (s u : Sent) (t c : ℕ) (same : (h : ℕ) → h < N.len c → u c h ≡ s c h) where
@@ -105,10 +105,10 @@ module _ (N : Network) (flow : ℕ → ℕ) (t : ℕ) (O : Sound N) {D : Type 0}
       next_is = S.becomes ∙ ap (λ k. next_condition k (onward N t c h)) S.waited
 
       goes : goes_on N c h ≡ true → n.condition c ≡ is.OnLink (h + 1) (t + N.delay (N.port c h))
-      goes e = next_is ∙ ap (λ b. next_condition (is.Waiting h S.since) (cond b (Forward (h + 1) (t + N.delay (N.port c h))) LetOut)) e
+      goes e = next_is ∙ ap (λ b. next_condition (is.Waiting h S.since) (cond b (SentOnward (h + 1) (t + N.delay (N.port c h))) SentOut)) e
 
       leaves : goes_on N c h ≡ false → n.condition c ≡ is.Gone
-      leaves e = next_is ∙ ap (λ b. next_condition (is.Waiting h S.since) (cond b (Forward (h + 1) (t + N.delay (N.port c h))) LetOut)) e
+      leaves e = next_is ∙ ap (λ b. next_condition (is.Waiting h S.since) (cond b (SentOnward (h + 1) (t + N.delay (N.port c h))) SentOut)) e
 
       other_hop : (g : ℕ) → (g ≡ h → ⊥) → g < N.len c → n.sent c g ≡ m.sent c g
       other_hop g ne lg = S.kept c g (record { cell = l; hop = lg }) (inr ne)

@@ -6,7 +6,7 @@ use Rattle.rules.specs.Conditions.{next_condition}
 use Rattle.rules.specs.Moments.{Moment, pending}
 use Rattle.rules.specs.declared.condition.Condition.TheVariants.{Waiting}
 use Rattle.rules.specs.declared.condition.Event.{Event}
-use Rattle.rules.specs.declared.condition.Event.TheVariants.{Arrive, Forward, LetOut}
+use Rattle.rules.specs.declared.condition.Event.TheVariants.{Arrive, SentOnward, SentOut}
 
 -- whether position h is the last of cell c
 abbrev pub goes_on : Network → ℕ → ℕ → Bool
@@ -15,7 +15,7 @@ goes_on N c h = nat_lt (h + 1) (N.len c)
 -- what happens to cell c when it is sent from position h in slot t: it goes onto the link to the next position, until the slot that
 -- the delay of the sending port says, or out
 abbrev pub onward : Network → ℕ → ℕ → ℕ → Event
-onward N t c h = cond (goes_on N c h) (Forward (h + 1) (t + N.delay (N.port c h))) LetOut
+onward N t c h = cond (goes_on N c h) (SentOnward (h + 1) (t + N.delay (N.port c h))) SentOut
 
 -- g is f but for what it has at c
 abbrev pub But : {X : Type 0} → (ℕ → X) → (ℕ → X) → ℕ → Type 0

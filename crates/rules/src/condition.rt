@@ -20,9 +20,9 @@ pub enum Event {
     // the cell enters, or comes to the end of its link, in a slot
     Arrive { slot: u32 },
     // the cell is sent onto the link to a position of its route, where it arrives in slot `until`
-    Forward { position: usize, until: u32 },
+    SentOnward { position: usize, until: u32 },
     // the cell is sent out of the network
-    LetOut,
+    SentOut,
 }
 
 // What a run keeps of a cell: its one condition, and where its hops begin in the hop log.
@@ -39,20 +39,24 @@ impl CellRecord {
         ensures condition { self.new.condition ≡ next_condition self.old.condition event }
         ensures first { self.new.first ≡ self.old.first }
     {
-        self.condition = match (self.condition, event) {
-            (Condition::Outside, Event::Arrive { slot }) => Condition::Waiting {
-                position: 0,
-                since: slot,
-            },
-            (Condition::OnLink { position, .. }, Event::Arrive { slot }) => Condition::Waiting {
-                position,
-                since: slot,
-            },
-            (Condition::Waiting { .. }, Event::Forward { position, until }) => {
-                Condition::OnLink { position, until }
+        match (&mut self.condition, event) {
+            (Condition::Outside, Event::Arrive { slot }) => {
+                self.condition = Condition::Waiting {
+                    position: 0,
+                    since: slot,
+                };
             }
-            (Condition::Waiting { .. }, Event::LetOut) => Condition::Gone,
-            (condition, _) => condition,
-        };
+            (Condition::OnLink { position, .. }, Event::Arrive { slot }) => {
+                self.condition = Condition::Waiting {
+                    position: *position,
+                    since: slot,
+                };
+            }
+            (Condition::Waiting { .. }, Event::SentOnward { position, until }) => {
+                self.condition = Condition::OnLink { position, until };
+            }
+            (Condition::Waiting { .. }, Event::SentOut) => self.condition = Condition::Gone,
+            _ => {}
+        }
     }
 }

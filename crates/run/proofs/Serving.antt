@@ -23,7 +23,7 @@ use Rattle.rules.specs.Rules.Served.{start, idle, sends}
 use Rattle.run.specs.Steps.{InSlot, Stands, SentOn, Flown, leaving, Serves, Turn, Turns}
 use Rattle.rules.specs.declared.condition.Condition.{Condition}
 use Rattle.rules.specs.declared.condition.Condition.TheVariants as is
-use Rattle.rules.specs.declared.condition.Event.TheVariants.{Forward, LetOut}
+use Rattle.rules.specs.declared.condition.Event.TheVariants.{SentOnward, SentOut}
 use Rattle.rules.specs.declared.hop.HopRecord.{HopRecord}
 use Rattle.run.specs.declared.recording.Recording.{Recording}
 use Rattle.run.specs.declared.standing.Standing.{Standing}
@@ -115,8 +115,8 @@ module _ {D : Type 0} (waiting : D → Waiting) (choice : D → ℕ → ℕ → 
 
       leaving_is : leaving s t (get_or (delays_of r.plan) p 0) ≡ onward N t c h
       leaving_is =
-          ap (λ b. cond b (Forward (h + 1) (t + get_or (delays_of r.plan) p 0)) LetOut) S.4
-          ∙ ap (λ j. cond (goes_on N c h) (Forward (h + 1) (t + get_or (delays_of r.plan) j 0)) LetOut) (sym port_is)
+          ap (λ b. cond b (SentOnward (h + 1) (t + get_or (delays_of r.plan) p 0)) SentOut) S.4
+          ∙ ap (λ j. cond (goes_on N c h) (SentOnward (h + 1) (t + get_or (delays_of r.plan) j 0)) SentOut) (sym port_is)
 
       own : q.records.items ≡ set r.records.items c
           (record { condition = next_condition (get_or r.records.items c no_record).condition (leaving s t (get_or (delays_of r.plan) p 0)); first = (get_or r.records.items c no_record).first })
@@ -186,9 +186,9 @@ module _ {D : Type 0} (waiting : D → Waiting) (choice : D → ℕ → ℕ → 
 
         next_pending : (b : Bool) → goes_on N c h ≡ b → pending N c (get_or q.records.items c no_record).condition ≡ cond b (Some (t + N.delay (N.port c h))) None
         next_pending b g = ap (pending N c) (becomes ∙ ap (λ k. next_condition k (onward N t c h)) S.1.1
-            ∙ ap (λ x. next_condition (is.Waiting h S.1.0) (cond x (Forward (h + 1) (t + N.delay (N.port c h))) LetOut)) g) ∙ by b
+            ∙ ap (λ x. next_condition (is.Waiting h S.1.0) (cond x (SentOnward (h + 1) (t + N.delay (N.port c h))) SentOut)) g) ∙ by b
           where
-            by : (b : Bool) → pending N c (next_condition (is.Waiting h S.1.0) (cond b (Forward (h + 1) (t + N.delay (N.port c h))) LetOut)) ≡ cond b (Some (t + N.delay (N.port c h))) None
+            by : (b : Bool) → pending N c (next_condition (is.Waiting h S.1.0) (cond b (SentOnward (h + 1) (t + N.delay (N.port c h))) SentOut)) ≡ cond b (Some (t + N.delay (N.port c h))) None
             by true = refl
             by false = refl
 

@@ -16,7 +16,7 @@ use Rattle.run.specs.Recordings.{network_of, flows, moment, Kept}
 use Rattle.rules.specs.Rules.{Entered, Sends, Served, goes_on}
 use Rattle.rules.specs.declared.condition.Condition.TheVariants.{Waiting as Waits}
 use Rattle.rules.specs.declared.condition.Event.{Event}
-use Rattle.rules.specs.declared.condition.Event.TheVariants.{Forward, LetOut}
+use Rattle.rules.specs.declared.condition.Event.TheVariants.{SentOnward, SentOut}
 use Rattle.run.specs.declared.standing.Standing.{Standing}
 use Rattle.rules.specs.declared.hop.HopRecord.{HopRecord}
 use Rattle.run.specs.declared.recording.Recording.{Recording}
@@ -38,7 +38,7 @@ Stands r c None = (h a : ℕ) → Hop (network_of r) c h → (slice_index_or r.r
 
 -- where a cell goes that is sent in slot t by a port with this delay
 abbrev pub leaving : Standing → ℕ → ℕ → Event
-leaving s t delay = cond s.goes_on (Forward (s.position + 1) (t + delay)) LetOut
+leaving s t delay = cond s.goes_on (SentOnward (s.position + 1) (t + delay)) SentOut
 
 -- cell c, which stands there, was sent by a port with this delay: what changed in the recording, the hop log and the flights
 pub record SentOn (r : Recording) (c : ℕ) (s : Standing) (delay : ℕ) (q : Recording) : Type 0 where

@@ -1,7 +1,7 @@
 // A cell that was picked and is to be sent.
 ghost use Rattle.std.specs.Prelude.{◌≡◌, ◌+◌, ◌<◌, false};
 ghost use Rattle.rules.specs.Conditions.{next_condition};
-ghost use Rattle.rules.specs.declared.condition.Event.TheVariants.{Forward, LetOut};
+ghost use Rattle.rules.specs.declared.condition.Event.TheVariants.{SentOnward, SentOut};
 ghost use Rattle.table.specs.Elements.{elements, full, SamePlaces};
 ghost use Rattle.table.specs.Kinds.{flight_upto};
 ghost use Rattle.table.specs.Order.{put_in};
@@ -20,13 +20,13 @@ pub(crate) struct Picked {
 impl Picked {
     // Puts the cell on the link to its next position, where it arrives in slot `until`.
     pub(crate) fn forward(self, own: &mut CellRecord, until: u32, flights: &mut Table<Flight>)
-        ensures condition { own.new.condition ≡ next_condition own.old.condition (Forward (self.standing.position + 1) until) }
+        ensures condition { own.new.condition ≡ next_condition own.old.condition (SentOnward (self.standing.position + 1) until) }
         ensures first { own.new.first ≡ own.old.first }
         ensures flights { full flights.old ≡ false → elements flights.new ≡ put_in flight_upto (record { slot = until; cell = self.cell }) (elements flights.old) }
         ensures places { SamePlaces flights.old flights.new }
     {
         let Picked { cell, standing } = self;
-        own.happen(Event::Forward {
+        own.happen(Event::SentOnward {
             position: standing.position + 1,
             until,
         });
@@ -35,13 +35,13 @@ impl Picked {
 
     // Lets the cell out.
     pub(crate) fn let_out(self, own: &mut CellRecord)
-        ensures condition { own.new.condition ≡ next_condition own.old.condition LetOut }
+        ensures condition { own.new.condition ≡ next_condition own.old.condition SentOut }
         ensures first { own.new.first ≡ own.old.first }
     {
         let Picked {
             cell: _,
             standing: _,
         } = self;
-        own.happen(Event::LetOut);
+        own.happen(Event::SentOut);
     }
 }

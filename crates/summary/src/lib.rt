@@ -24,7 +24,7 @@ fn write_cells(text: &mut String, ended: &Ended) -> Result<(), AllocError>
     ensures { OnOk result (string_bytes text.new ≡ string_bytes text.old ++ cell_lines ended.now.recording.now ended.now.log.now (length (cells_of ended.now.recording.now.plan))) }
 {
     for cell in 0..ended.cells() {
-        write_cell(text, cell, ended.fared(cell))?;
+        write_cell(text, cell, ended.fared(cell).unwrap())?;
     }
     Ok(())
 }

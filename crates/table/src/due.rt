@@ -5,7 +5,7 @@ ghost use Rattle.table.specs.Lexical.{due_lawful};
 use crate::order::Ordered;
 
 // The slot in which a cell is due at the port where it waits. A due slot may lie before slot 0.
-#[derive(Clone, Copy, PartialEq, Eq, PartialOrd, Ord)]
+#[derive(Clone, Copy, Default, PartialEq, Eq, PartialOrd, Ord)]
 pub struct DueCell {
     pub port: usize,
     pub due: i64,

@@ -5,7 +5,7 @@ ghost use Rattle.table.specs.Lexical.{flight_lawful};
 use crate::order::Ordered;
 
 // The slot in which a cell arrives: from outside, or at the end of a link.
-#[derive(Clone, Copy, PartialEq, Eq, PartialOrd, Ord)]
+#[derive(Clone, Copy, Default, PartialEq, Eq, PartialOrd, Ord)]
 pub struct Flight {
     pub slot: u32,
     pub cell: usize,

@@ -1,6 +1,6 @@
 // How the cells of a recording that has ended fared.
-ghost use Rattle.std.specs.Prelude.{◌≡◌, ◌<◌, length, pos, ◌-ℤ◌};
-ghost use Rattle.plan.specs.Plans.{cells_of};
+ghost use Rattle.std.specs.Prelude.{◌≡◌, length, pos, ◌-ℤ◌};
+ghost use Rattle.plan.specs.Plans.{cells_of, Asked};
 ghost use Rattle.outcome.specs.Ends.{Opens};
 ghost use Rattle.outcome.specs.Outcomes.{outcome_of};
 
@@ -38,23 +38,22 @@ impl<'a> Ended<'a> {
         self.recording.plan().cells()
     }
 
-    // How a cell of the plan fared.
-    pub fn fared(&self, cell: usize) -> CellOutcome
-        requires { cell < length (cells_of self.now.recording.now.plan) }
-        ensures { result ≡ outcome_of self.now.recording.now self.now.log.now cell }
+    // How a cell fared, or none past the last cell.
+    pub fn fared(&self, cell: usize) -> Option<CellOutcome>
+        ensures { Asked (length (cells_of self.now.recording.now.plan)) cell result (λ o. o ≡ outcome_of self.now.recording.now self.now.log.now cell) }
     {
         let plan = self.recording.plan();
-        let planned = plan.cell(cell).unwrap();
+        let planned = plan.cell(cell)?;
         let last = planned.route().ports().len() - 1;
         let sent = self.recording.sent(self.log, cell, last).unwrap();
         // the log of a run that was left unaltered has a slot there
         let exit = sent.unwrap_or(0);
         let entry = planned.entry();
         let travel = plan.least_travel(cell).unwrap();
-        CellOutcome {
+        Some(CellOutcome {
             entry,
             exit,
             slack: left_over(exit, entry, travel),
-        }
+        })
     }
 }

@@ -24,7 +24,7 @@ impl Ended<'_> {
     {
         let mut slacks = ArrayVec::new();
         for cell in 0..self.cells() {
-            slacks.push(held(self.fared(cell).slack));
+            slacks.push(held(self.fared(cell).unwrap().slack));
         }
         slacks
     }

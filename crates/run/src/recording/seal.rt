@@ -64,7 +64,7 @@ fn clear(log: &mut [HopRecord], hops: usize)
     ensures { Cleared hops log.old log.new }
 {
     let end = hops.min(log.len());
-    log[..end].fill(HopRecord { sent: None });
+    log[..end].fill(HopRecord::default());
 }
 
 impl Recording {
