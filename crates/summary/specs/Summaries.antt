@@ -43,13 +43,17 @@ abbrev pub ports_part : List ℕ → List ℕ
 ports_part [] = codes " none"
 ports_part (p ∷ ps) = flat_map port_part (p ∷ ps)
 
+-- the line of contested ports
+abbrev pub ports_line : List ℕ → List ℕ
+ports_line ps = codes "contested" ++ (ports_part ps ++ feed)
+
 -- the contested ports of the plan
 abbrev pub contested_ports : Recording → List ℕ
 contested_ports r = flagged r.contested (length (delays_of r.plan))
 
--- the line of the contested ports
+-- their line
 abbrev pub contested_line : Recording → List ℕ
-contested_line r = codes "contested" ++ (ports_part (contested_ports r) ++ feed)
+contested_line r = ports_line (contested_ports r)
 
 -- the whole text
 unfoldable pub summarized : Recording → List HopRecord → List ℕ

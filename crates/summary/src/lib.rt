@@ -1,9 +1,9 @@
 // What came of a recording that has ended, as text for a person.
 #![tactic(auto)]
 
-ghost use Rattle.std.specs.Prelude.{◌≡◌, ◌++◌, length, codes, vec_items, string_bytes, IfOk, OnOk};
+ghost use Rattle.std.specs.Prelude.{◌≡◌, ◌++◌, length, vec_items, string_bytes, IfOk, OnOk};
 ghost use Rattle.plan.specs.Plans.{cells_of};
-ghost use Rattle.summary.specs.Summaries.{cell_line, cell_lines, ports_part, contested_ports, feed, Answers};
+ghost use Rattle.summary.specs.Summaries.{cell_line, cell_lines, ports_part, ports_line, contested_ports, Answers};
 
 use outcome::{CellOutcome, Ended};
 use refusal::Refusal;
@@ -53,7 +53,7 @@ fn write_ports(text: &mut String, ports: &[usize]) -> Result<(), AllocError>
 
 // Writes the line of the contested ports.
 fn write_contested(text: &mut String, ports: &[usize]) -> Result<(), AllocError>
-    ensures { OnOk result (string_bytes text.new ≡ string_bytes text.old ++ (codes "contested" ++ (ports_part ports.now ++ feed))) }
+    ensures { OnOk result (string_bytes text.new ≡ string_bytes text.old ++ ports_line ports.now) }
 {
     write!(text, "contested")?;
     write_ports(text, ports)?;

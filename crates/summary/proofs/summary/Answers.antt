@@ -1,6 +1,6 @@
-use Rattle.std.proofs.Common.{◌≡◌, [], ◌++◌, length, string_bytes, codes, ap, ◌∙◌}
+use Rattle.std.proofs.Common.{◌≡◌, [], ◌++◌, length, string_bytes, ap, ◌∙◌}
 use Rattle.plan.specs.Plans.{cells_of}
-use Rattle.summary.specs.Summaries.{cell_lines, ports_part, feed, summarized}
+use Rattle.summary.specs.Summaries.{cell_lines, ports_line, summarized}
 use Rattle.summary.proofs.summary.Goals as goal
 
 pub returns : goal.returns
@@ -16,5 +16,5 @@ returns c =
     λ i. cell_lines (e.1 i) (e.2 i) (length (cells_of (e.1 i).plan)) in
     let ports = c.as_slice.ensures.value ∙ c.in_ok-contested_ports.ensures in (
       e.0,
-      c.in_ok-write_contested.ensures ∙ (λ i. (cells ∙ same) i ++ (codes "contested" ++ (ports_part (ports i) ++ feed))),
+      c.in_ok-write_contested.ensures ∙ (λ i. (cells ∙ same) i ++ ports_line (ports i)),
     )
