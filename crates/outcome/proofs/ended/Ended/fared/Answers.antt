@@ -1,11 +1,11 @@
-use Rattle.std.proofs.Common.{◌≡◌, ◌-◌, ltb, length, get_or, None, Option, Result, IsOk, subst, sym, ap, ◌∙◌, arith, rules}
+use Rattle.std.proofs.Common.{◌≡◌, ◌-◌, ◌<◌, ltb, length, get_or, None, Option, Result, IsOk, subst, sym, ap, ◌∙◌, arith, rules}
 use Rattle.std.proofs.lemmas.Bool.{le-ltb, lt-leb, or_from}
 use Rattle.refusal.specs.Tests.{when, or_else}
 use Rattle.refusal.specs.declared.Refusal.{Refusal}
 use Rattle.refusal.specs.declared.Refusal.TheVariants.{UnknownItem, NoPlace}
 use Rattle.discipline.specs.Calls.{told}
-use Rattle.plan.specs.Cells.{planned, no_cell, hops_in, ports_of}
-use Rattle.plan.specs.Plans.{cells_of, Asked}
+use Rattle.plan.specs.Cells.{no_cell, hops_in, ports_of}
+use Rattle.plan.specs.Plans.{cells_of}
 use Rattle.plan.proofs.Facts.{cells_fit}
 use Rattle.run.specs.Asking.{sent_test}
 use Rattle.outcome.proofs.ended.Ended.fared.Goals as goal
@@ -19,8 +19,8 @@ unwrap-sent-requires c =
     let own = c.args.self.now in
     let plan = own.recording.now.plan in
     let cs = cells_of plan in
-    let there = c.requires in
-    let cell = subst (λ o. Asked (length (cells_of c.plan-plan.result.now)) c.args.cell o (λ x. planned x ≡ get_or (cells_of c.plan-plan.result.now) c.args.cell no_cell)) c.unwrap-planned.ensures c.cell.ensures in
+    let cell = c.in_ok-planned.ensures in
+    let there : c.args.cell < length cs = subst (λ p. c.args.cell < length (cells_of p)) c.plan-plan.ensures cell.0 in
     let route = c.ports.ensures ∙ ap ports_of c.route.ensures ∙ ap (λ x. x.route) (cell.1 ∙ ap (λ p. get_or (cells_of p) c.args.cell no_cell) c.plan-plan.ensures) in
     let long = ap length route in
     let some = (cells_fit plan c.args.cell there).2.0 in
