@@ -1,7 +1,7 @@
 -- A walk along a chain: its start, a step, and its end.
-use Rattle.std.proofs.Common.{◌≡◌, ℕ, zero, suc, ◌+◌, ◌-◌, ◌^◌, ◌<◌, ◌≤◌, Bool, true, false, cond, ◌||◌, eqb, ltb, leb, ◌⊎◌, List, [], ◌∷◌, ◌++◌, length, get_or, take, drop, set, Some, None, Ok, sym, refl, ap, ◌∙◌, subst, inl, inr, append_assoc, append-nil, arith, length-set}
-use Rattle.std.proofs.lemmas.List.{take_more, drop_more, length-drop, take_all, get_or-set_same, get_or-set_other}
-use Rattle.std.proofs.lemmas.Bool.{cases_eq, eqb-true, ne_eqb, ltb-true, leb-true, or_cases, and_parts, or_right, eq-eqb}
+use Rattle.std.proofs.Common.{◌≡◌, ℕ, zero, suc, ◌+◌, ◌-◌, ◌^◌, ◌<◌, ◌≤◌, Bool, true, false, cond, ◌||◌, eqb, ltb, leb, ◌⊎◌, List, [], ◌∷◌, ◌++◌, map, min, length, get_or, take, drop, set, Some, None, Ok, sym, refl, ap, ◌∙◌, subst, inl, inr, append_assoc, append-nil, arith, length-set}
+use Rattle.std.proofs.lemmas.List.{take_more, drop_more, length-drop, length-take, length-map, map_push, take_all, get_or-set_same, get_or-set_other, set_past}
+use Rattle.std.proofs.lemmas.Bool.{cases_eq, cases_lt, eqb-true, ne_eqb, ltb-true, leb-true, or_cases, and_parts, or_right, eq-eqb}
 use Rattle.refusal.specs.Tests.{when, each_below}
 use Rattle.refusal.proofs.Ordered.{each_below_more, each_below_stops}
 use Rattle.refusal.specs.declared.Refusal.TheVariants.{BadChain}
@@ -17,6 +17,17 @@ next_cases n i x h =
     elim (or_cases (eqb x 0) _ h) [
       | inl e ↦ inl (eqb-true x 0 e)
       | inr e ↦ let p = and_parts (ltb i x) (leb x n) e in inr (ltb-true i x p.0, leb-true x n p.1)
+    ]
+
+-- so the indices of a walk rise to the end
+pub nearer : (h n i j x : ℕ) → h ≡ n → j ≡ x → 0 < i → i ≤ n → (x ≡ 0) ⊎ ((i < x) × (x ≤ n))
+    → cond (eqb j 0) 0 (h + 1 - j) < cond (eqb i 0) 0 (h + 1 - i)
+nearer h n i j x e f p l next =
+    let here : cond (eqb i 0) 0 (h + 1 - i) ≡ h + 1 - i = ap (λ b. cond b 0 (h + 1 - i)) (ne_eqb i 0 (λ z. omega arith)) in
+    elim next [
+      | inl z ↦ (let end : cond (eqb j 0) 0 (h + 1 - j) ≡ 0 = ap (λ b. cond b 0 (h + 1 - j)) (eq-eqb j 0 (f ∙ z)) in omega arith)
+      | inr q ↦ (let a = q.0 in let b = q.1 in
+          let on : cond (eqb j 0) 0 (h + 1 - j) ≡ h + 1 - j = ap (λ b. cond b 0 (h + 1 - j)) (ne_eqb j 0 (λ z. omega arith)) in omega arith)
     ]
 
 -- the chain from a record on
@@ -98,40 +109,58 @@ stored_more xs F k v h e j l m =
       | inr q ↦ get_or-set_other xs k j v 0 q ∙ h j (omega arith) m
     ]
 
+-- the first n of a list with one more are those of its first n with one more
+take_push : (n : ℕ) (xs : List ℕ) (x : ℕ) → take n (take n xs ++ x ∷ []) ≡ take n (xs ++ x ∷ [])
+take_push zero xs x = refl
+take_push (suc n) [] x = refl
+take_push (suc n) (y ∷ ys) x = ap (λ zs. y ∷ zs) (take_push n ys x)
+
+-- as many ports are kept as records have passed, up to 9
+kept : (bs chain : List ℕ) (k : ℕ) (f : Found) → k ≤ length chain → Noted bs chain k f → length f.ports.items ≡ min 9 k
+kept bs chain k f l n =
+    omega (arith, ap length n.ports, length-take 9 (map (port_at bs) (take k chain)), length-map (take k chain) (port_at bs), length-take k chain)
+
+-- so a slot is written at the place of its record, or nowhere
+sent_place : (bs chain : List ℕ) (k v : ℕ) (f : Found) → k ≤ length chain → Noted bs chain k f → set f.sent (length f.ports.items) v ≡ set f.sent k v
+sent_place bs chain k v f l n =
+    let m = kept bs chain k f l n in
+    let s = n.sent_long in
+    elim (cases_lt k 9) [
+      | inl q ↦ (let e : length f.ports.items ≡ k = omega arith in ap (λ j. set f.sent j v) e)
+      | inr q ↦ set_past f.sent (length f.ports.items) v (omega arith) ∙ sym (set_past f.sent k v (omega arith))
+    ]
+
 -- found with one record more
-pub noted_more : (bs chain : List ℕ) (k i : ℕ) (f g : Found) → get_or chain k 0 ≡ i
-    → g.len ≡ f.len + 1 → g.ports ≡ set f.ports f.len (port_at bs i) → g.sent ≡ set f.sent f.len (sent_at bs i)
+pub noted_more : (bs chain : List ℕ) (k i : ℕ) (f g : Found) → k < length chain → get_or chain k 0 ≡ i
+    → g.ports.items ≡ take 9 (f.ports.items ++ port_at bs i ∷ []) → g.sent ≡ set f.sent (length f.ports.items) (sent_at bs i)
     → sent_at bs i < 2 ^ 32 → Noted bs chain k f → Noted bs chain (k + 1) g
-noted_more bs chain k i f g at len ports sent fits n =
-    let p9 = n.ports_long in
+noted_more bs chain k i f g here at ports stored fits n =
     let s8 = n.sent_long in
+    let sent : g.sent ≡ set f.sent k (sent_at bs i) = stored ∙ sent_place bs chain k (sent_at bs i) f (omega arith) n in
     record {
-      len = let e = n.len in omega arith;
-      ports = λ j l m.
-          ap (λ xs. get_or xs j 0) (ports ∙ ap (λ x. set f.ports x (port_at bs i)) n.len)
-          ∙ stored_more f.ports (λ x. port_at bs (get_or chain x 0)) k (port_at bs i)
-          (λ x a b. n.ports x a (omega arith)) (ap (port_at bs) (sym at)) j l (omega arith);
+      ports =
+          ports ∙ ap (λ ps. take 9 (ps ++ port_at bs i ∷ [])) n.ports ∙ take_push 9 (map (port_at bs) (take k chain)) (port_at bs i)
+          ∙ ap (take 9) (sym (map_push (port_at bs) (take k chain) i))
+          ∙ ap (λ is. take 9 (map (port_at bs) is)) (ap (λ x. take k chain ++ x ∷ []) (sym at) ∙ sym (take_more chain k 0 here));
       sent = λ j l m.
-          ap (λ xs. get_or xs j 0) (sent ∙ ap (λ x. set f.sent x (sent_at bs i)) n.len)
+          ap (λ xs. get_or xs j 0) sent
           ∙ stored_more f.sent (λ x. sent_at bs (get_or chain x 0)) k (sent_at bs i)
           (λ x a b. n.sent x a (omega arith)) (ap (sent_at bs) (sym at)) j l (omega arith);
       fits = λ j l.
-          elim (cases_eq j f.len) [
-            | inl q ↦ (let in' : f.len < length f.sent = omega arith in
-                let e : get_or g.sent j 0 ≡ sent_at bs i = ap (λ xs. get_or xs j 0) sent ∙ ap (λ x. get_or (set f.sent f.len (sent_at bs i)) x 0) q ∙ get_or-set_same f.sent f.len (sent_at bs i) 0 in' in
+          elim (cases_eq j k) [
+            | inl q ↦ (let in' : k < length f.sent = omega arith in
+                let e : get_or g.sent j 0 ≡ sent_at bs i = ap (λ xs. get_or xs j 0) sent ∙ ap (λ x. get_or (set f.sent k (sent_at bs i)) x 0) q ∙ get_or-set_same f.sent k (sent_at bs i) 0 in' in
                 omega arith)
-            | inr q ↦ (let e : get_or g.sent j 0 ≡ get_or f.sent j 0 = ap (λ xs. get_or xs j 0) sent ∙ get_or-set_other f.sent f.len j (sent_at bs i) 0 q in
+            | inr q ↦ (let e : get_or g.sent j 0 ≡ get_or f.sent j 0 = ap (λ xs. get_or xs j 0) sent ∙ get_or-set_other f.sent k j (sent_at bs i) 0 q in
                 let b = n.fits j l in omega arith)
           ];
-      ports_long = ap length ports ∙ length-set f.ports f.len (port_at bs i) ∙ n.ports_long;
-      sent_long = ap length sent ∙ length-set f.sent f.len (sent_at bs i) ∙ n.sent_long;
+      sent_long = ap length sent ∙ length-set f.sent k (sent_at bs i) ∙ n.sent_long;
     }
 
 -- the start of a walk
-pub walking_none : (bs : List ℕ) (c k i : ℕ) (flags : List Bool) (f : Found) → k ≡ 0 → i ≡ first_at bs c → Linked bs → c < cell_count bs
-    → length flags ≡ 2049 → Seen flags (reached bs c) → Noted bs (chain_of bs c) 0 f → Walking bs c k i flags f
-walking_none bs c k i flags f zero_is first-is linked l long s n =
-    subst (λ x. Walking bs c x i flags f) (sym zero_is) (subst (λ x. Walking bs c 0 x flags f) (sym first-is) start)
+pub walking_none : (bs : List ℕ) (c i : ℕ) (flags : List Bool) (f : Found) → i ≡ first_at bs c → Linked bs → c < cell_count bs
+    → length flags ≡ 2049 → Seen flags (reached bs c) → Noted bs (chain_of bs c) 0 f → Walking bs c 0 i flags f
+walking_none bs c i flags f first-is linked l long s n = subst (λ x. Walking bs c 0 x flags f) (sym first-is) start
   where
     start : Walking bs c 0 (first_at bs c) flags f
     start = record {
@@ -148,21 +177,20 @@ walking_none bs c k i flags f zero_is first-is linked l long s n =
 -- a step
 pub walking_more : (bs : List ℕ) (c k i : ℕ) (flags : List Bool) (f : Found) (i' : ℕ) (flags' : List Bool) (g : Found)
     → Linked bs → Walking bs c k i flags f → 0 < i → i < length flags → get_or flags i false ≡ false
-    → i' ≡ next_at bs i → flags' ≡ set flags i true → g.len ≡ f.len + 1 → g.ports ≡ set f.ports f.len (port_at bs i)
-    → g.sent ≡ set f.sent f.len (sent_at bs i) → sent_at bs i < 2 ^ 32 → Walking bs c g.len i' flags' g
-walking_more bs c k i flags f i' flags' g linked w more l free next_is flags-are len ports sent fits =
-    subst (λ x. Walking bs c x i' flags' g) (sym noted.len)
-    (subst (λ x. Walking bs c (k + 1) x flags' g) (sym next_is)
-    (subst (λ x. Walking bs c (k + 1) (next_at bs i) x g) (sym flags-are) step))
+    → i' ≡ next_at bs i → flags' ≡ set flags i true → g.ports.items ≡ take 9 (f.ports.items ++ port_at bs i ∷ [])
+    → g.sent ≡ set f.sent (length f.ports.items) (sent_at bs i) → sent_at bs i < 2 ^ 32 → Walking bs c (k + 1) i' flags' g
+walking_more bs c k i flags f i' flags' g linked w more l free next_is flags-are ports sent fits =
+    subst (λ x. Walking bs c (k + 1) x flags' g) (sym next_is)
+    (subst (λ x. Walking bs c (k + 1) (next_at bs i) x g) (sym flags-are) step)
   where
+    here : k < length (chain_of bs c)
+    here = not_past bs c k i flags f w more
+
     noted : Noted bs (chain_of bs c) (k + 1) g
-    noted = noted_more bs (chain_of bs c) k i f g (is_next bs c k i flags f w more) len ports sent fits w.noted
+    noted = noted_more bs (chain_of bs c) k i f g here (is_next bs c k i flags f w more) ports sent fits w.noted
 
     onward : (next_at bs i ≡ 0) ⊎ ((i < next_at bs i) × (next_at bs i ≤ hop_count bs))
     onward = next_cases (hop_count bs) i (next_at bs i) (linked.next i more w.index)
-
-    here : k < length (chain_of bs c)
-    here = not_past bs c k i flags f w more
 
     step : Walking bs c (k + 1) (next_at bs i) (set flags i true) g
     step =

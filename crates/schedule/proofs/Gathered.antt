@@ -1,5 +1,5 @@
 -- One port, and one cell more of what has been gathered.
-use Rattle.std.proofs.Common.{◌≡◌, ℕ, ◌+◌, ◌<◌, ◌≤◌, min, not, leb, List, [], ◌∷◌, ◌++◌, map, length, get_or, take, None, Option, sym, ap, ◌∙◌, subst, inl, inr, arith, w32, SFits, to_z}
+use Rattle.std.proofs.Common.{◌≡◌, ℕ, ◌+◌, ◌<◌, ◌≤◌, not, leb, List, [], ◌∷◌, ◌++◌, map, length, get_or, None, Option, sym, ap, ◌∙◌, subst, inl, inr, arith, w32, SFits, to_z}
 use Rattle.std.proofs.lemmas.List.{length_push, get_or_append_left, get_or_push, length-map, get_or-map, take_all}
 use Rattle.std.proofs.lemmas.Bool.{cases_eq, le-leb, lt-leb, le-ltb, and_from}
 use Rattle.refusal.specs.Tests.{when, or_else, each_below, Refuses}
@@ -61,9 +61,9 @@ module _ (bs : List ℕ) (passed : field_tests bs ≡ None) (c : ℕ) (known : c
 
   -- the tests of the kept ports are those of the whole route
   pub kept_test : (n flow : ℕ) (f : Found) → flow ≡ flow_at bs c → c < 256 → Noted bs (chain_of bs c) (length (chain_of bs c)) f
-      → cell_test n c flow (take (min f.len 9) f.ports) ≡ route_test n c (map (port_at bs) (chain_of bs c))
+      → cell_test n c flow f.ports.items ≡ route_test n c (map (port_at bs) (chain_of bs c))
   kept_test n flow f e few noted =
-      cell_passes n flow (take (min f.len 9) f.ports) e few
+      cell_passes n flow f.ports.items e few
       ∙ ap (route_test n c) (kept_ports bs (chain_of bs c) f noted)
       ∙ test_kept n c (map (port_at bs) (chain_of bs c))
 
@@ -73,7 +73,7 @@ module _ (bs : List ℕ) (passed : field_tests bs ≡ None) (c : ℕ) (known : c
     few_hops = let a = route_few n c (map (port_at bs) (chain_of bs c)) fits in let b = length-map (chain_of bs c) (port_at bs) in omega arith
 
     -- the route is whole
-    pub route_whole : take (min f.len 9) f.ports ≡ map (port_at bs) (chain_of bs c)
+    pub route_whole : f.ports.items ≡ map (port_at bs) (chain_of bs c)
     route_whole =
         let a = few_hops in
         let b = length-map (chain_of bs c) (port_at bs) in
@@ -88,7 +88,7 @@ module _ (bs : List ℕ) (passed : field_tests bs ≡ None) (c : ℕ) (known : c
 
     -- the cell as the file holds it
     module _ (x : Planned) (m : Marks) (entry : x.entry ≡ entry_at bs c) (flow : x.flow ≡ flow_at bs c)
-        (route : x.route ≡ take (min f.len 9) f.ports) (slack : m.slack ≡ slack_at bs c) (sent : m.sent ≡ f.sent) where
+        (route : x.route ≡ f.ports.items) (slack : m.slack ≡ slack_at bs c) (sent : m.sent ≡ f.sent) where
       hops_held : (scheduled x m).hops ≡ map (hop_at bs) (chain_of bs c)
       hops_held = ap (λ r. hops_of r m.sent) (route ∙ route_whole) ∙ ap (hops_of (map (port_at bs) (chain_of bs c))) sent ∙ hops_whole
 
@@ -157,15 +157,15 @@ gathered_none bs k ds cs ms ported no_cells none =
 module _ (bs : List ℕ) (passed : field_tests bs ≡ None) (c : ℕ) (known : c < cell_count bs) (few : c < 256)
     (ds : List ℕ) (cs : List Planned) (flow : ℕ) (r : List ℕ) (f : Found)
     (ports : length ds ≡ port_count bs) (cells : length cs ≡ c) (flow-is : flow ≡ flow_at bs c)
-    (route : r ≡ take (min f.len 9) f.ports)
+    (route : r ≡ f.ports.items)
     (walked : each_below (length (chain_of bs c)) (twice_test bs c) ≡ None)
     (noted : Noted bs (chain_of bs c) (length (chain_of bs c)) f) where
   chain_tested : chain_test bs c ≡ cell_test (length ds) (length cs) flow r
   chain_tested =
       or_else_after _ (route_test (port_count bs) c (map (port_at bs) (chain_of bs c))) walked
       ∙ sym (ap (cell_test (length ds) (length cs) flow) route
-      ∙ ap (λ n. cell_test n (length cs) flow (take (min f.len 9) f.ports)) ports
-      ∙ ap (λ n. cell_test (port_count bs) n flow (take (min f.len 9) f.ports)) cells
+      ∙ ap (λ n. cell_test n (length cs) flow f.ports.items) ports
+      ∙ ap (λ n. cell_test (port_count bs) n flow f.ports.items) cells
       ∙ kept_test bs passed c known (port_count bs) flow f flow-is few noted)
 
   -- its refusal is that of the chain's tests

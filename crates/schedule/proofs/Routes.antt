@@ -1,6 +1,6 @@
 -- What a walk has found, as a route and as hops.
-use Rattle.std.proofs.Common.{◌≡◌, ℕ, zero, suc, ◌+◌, ◌<◌, ◌≤◌, min, cond, not, leb, List, [], ◌∷◌, map, length, get_or, take, Some, None, Option, sym, refl, ap, ◌∙◌, subst, inl, inr, arith}
-use Rattle.std.proofs.lemmas.List.{ext_get_or, length-take, length-map, get_or-take, get_or-map, take_all}
+use Rattle.std.proofs.Common.{◌≡◌, ℕ, zero, suc, ◌+◌, ◌<◌, ◌≤◌, cond, not, leb, List, [], ◌∷◌, map, length, get_or, take, Some, None, Option, sym, refl, ap, ◌∙◌, subst, inl, inr, arith}
+use Rattle.std.proofs.lemmas.List.{length-take, take_all}
 use Rattle.std.proofs.lemmas.Bool.{cases_lt, lt-leb, and_right, ne_eqb}
 use Rattle.refusal.specs.Tests.{when, or_else}
 use Rattle.refusal.proofs.Ordered.{or_else_passes, when_passes}
@@ -18,20 +18,8 @@ use Rattle.schedule.proofs.Chains.{next_cases}
 use Rattle.plan.proofs.Passed.{within_parts}
 
 -- the ports that were kept are the first 9 of the chain's
-pub kept_ports : (bs chain : List ℕ) (f : Found) → Noted bs chain (length chain) f
-    → take (min f.len 9) f.ports ≡ take 9 (map (port_at bs) chain)
-kept_ports bs chain f n =
-    let len = n.len in
-    let long = n.ports_long in
-    let a = length-take (min f.len 9) f.ports in
-    let b = length-take 9 (map (port_at bs) chain) in
-    let d = length-map chain (port_at bs) in
-    ext_get_or 0 _ _ (omega arith) (λ i l.
-    let i9 : i < 9 = omega arith in
-    let im : i < min f.len 9 = omega arith in
-    let ic : i < length chain = omega arith in
-    get_or-take (min f.len 9) f.ports i 0 im ∙ n.ports i ic i9
-    ∙ sym (get_or-take 9 (map (port_at bs) chain) i 0 i9 ∙ get_or-map (port_at bs) chain i 0 0 ic))
+pub kept_ports : (bs chain : List ℕ) (f : Found) → Noted bs chain (length chain) f → f.ports.items ≡ take 9 (map (port_at bs) chain)
+kept_ports bs chain f n = n.ports ∙ ap (λ is. take 9 (map (port_at bs) is)) (take_all (length chain) chain (omega arith))
 
 -- a route of more than 8 ports is refused for its length, however much longer it is
 too_long : (n c : ℕ) (r : List ℕ) → 8 < length r → route_test n c r ≡ Some (BadRouteLength c)

@@ -1,5 +1,5 @@
 -- Chains of hop records, and how far a walk along one has come.
-use Rattle.std.specs.Prelude.{◌≡◌, ℕ, ◌-◌, ◌^◌, ◌<◌, ◌≤◌, Bool, true, false, List, ◌++◌, length, take, drop, Some, None, Ok, Err, Result, slice_index, slice_index_or}
+use Rattle.std.specs.Prelude.{◌≡◌, ℕ, ◌-◌, ◌^◌, ◌<◌, ◌≤◌, Bool, true, false, List, ◌++◌, map, length, take, drop, Some, None, Ok, Err, Result, slice_index, slice_index_or}
 use Rattle.refusal.specs.Tests.{each_below}
 use Rattle.refusal.specs.declared.Refusal.{Refusal}
 use Rattle.plan.specs.Cells.{has}
@@ -19,11 +19,9 @@ Seen flags is = (j : ℕ) → j < length flags → slice_index_or flags j false 
 -- found has what stands in the first k records of a chain: their ports, of which 9 are kept, and their sent slots, of
 -- which 8 are
 pub record Noted (bs : List ℕ) (chain : List ℕ) (k : ℕ) (f : Found) : Type 0 where
-  pub len : f.len ≡ k
-  pub ports : (j : ℕ) → j < k → j < 9 → slice_index f.ports j ≡ port_at bs (slice_index chain j)
+  pub ports : f.ports.items ≡ take 9 (map (port_at bs) (take k chain))
   pub sent : (j : ℕ) → j < k → j < 8 → slice_index f.sent j ≡ sent_at bs (slice_index chain j)
   pub fits : (j : ℕ) → j < 8 → slice_index f.sent j < 2 ^ 32
-  pub ports_long : length f.ports ≡ 9
   pub sent_long : length f.sent ≡ 8
 
 -- the first k records on the chain of cell c have passed, and the next one is i, or 0 at the end

@@ -2,10 +2,8 @@
 use Rattle.std.specs.Prelude.{◌≡◌, ℕ, zero, suc, ◌<◌, ◌≤◌, List, [], ◌∷◌, map, length, get_or, vec_items, slice_index, slice_index_or, refl}
 use Rattle.std.proofs.Common.{sym, ap, subst, ◌∙◌, arith}
 use Rattle.std.proofs.lemmas.List.{get_or_default, get_or_read, get_or_past}
-use Rattle.std.proofs.Math.Logic.{∥∥₁_elim}
-use denote.Struct.Props.{props}
 use Rattle.plan.specs.Cells.{Planned, no_cell, hops_in, Cells}
-use Rattle.layout.specs.Contents.{Scheduled, Fit, Marked, no_hop, no_scheduled, plan_part, total_hops, kind_number, pile_number}
+use Rattle.layout.specs.Contents.{Fit, Marked, no_hop, no_scheduled, plan_part, total_hops, kind_number, pile_number}
 use Rattle.layout.specs.Fields.{kind_at, pile_at, cell_count}
 use Rattle.layout.specs.Holding.{Held, CellHeld}
 use Rattle.layout.specs.declared.kind.Kind.{Kind}
@@ -82,10 +80,6 @@ held_whole bs k p ds cs ms kind pile g =
           subst (CellHeld bs i) (sym (get_or_timed cs ms i same in')) (g.held i (omega arith));
     }
 
--- that a cell is marked as its kind asks has one proof at most
-marked_prop : (k : Kind) (x : Scheduled) → IsProp (Marked k x)
-marked_prop k x = hlevel props
-
 -- what every schedule holds can be held by a file
 module _ (s : Schedule) where
   pub as_many : length (cells_of s.plan) ≡ length (vec_items s.marks)
@@ -104,7 +98,7 @@ module _ (s : Schedule) where
             let n = length_timed _ _ as_many in
             let in' : c < length (cells_of s.plan) = omega arith in
             let x = scheduled (slice_index_or (cells_of s.plan) c no_cell) (slice_index_or (vec_items s.marks) c no_marks) in
-            let one : Marked s.kind x = ∥∥₁_elim s.marks_fit (marked_prop s.kind x) (λ all. all c in') in
+            let one : Marked s.kind x = s.marks_fit c in' in
             subst (Marked s.kind) (sym (get_or_timed _ _ c as_many in')) one;
       }
 

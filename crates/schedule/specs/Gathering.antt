@@ -9,15 +9,22 @@ use Rattle.plan.specs.declared.plan.Plan.{Plan}
 use Rattle.layout.specs.Contents.{Marked}
 use Rattle.layout.specs.Fields.{port_count, cell_count, delay_at}
 use Rattle.layout.specs.Holding.{CellHeld}
-use Rattle.layout.specs.Order.{chain_test, chain_tests, reached}
+use Rattle.layout.specs.Order.{field_tests, chain_test, chain_tests, reached}
 use Rattle.layout.specs.declared.kind.Kind.{Kind}
 use Rattle.schedule.specs.Chains.{Seen}
 use Rattle.schedule.specs.Marking.{scheduled, no_marks}
+use Rattle.schedule.specs.declared.checked.Checked.{Checked}
+use Rattle.schedule.specs.declared.image.Image.{Image}
 use Rattle.schedule.specs.declared.marks.Marks.{Marks}
 
 -- a call that tests and allocates by turns refuses by the first test that fails, unless it finds no memory before it
 abbrev pub Stops : Option Refusal → Refusal → Type 0
 Stops o e = (e ≡ NoMemory) ⊎ (o ≡ Some e)
+
+-- the file, where the tests of its fields pass, or the refusal of the first that fails
+abbrev pub FieldsTested : Image → Result Checked Refusal → Type 0
+FieldsTested i (Ok c) = c.image ≡ i
+FieldsTested i (Err e) = field_tests i.bytes.now ≡ Some e
 
 -- these are the delays of the first n ports
 pub record Ported (bs : List ℕ) (n : ℕ) (ds : List ℕ) : Type 0 where

@@ -1,13 +1,12 @@
 // The chains of hop records.
 mod along;
 
-pub(crate) use along::walk;
+use arrayvec::ArrayVec;
 
 // What a walk along a chain has found: the ports of its records, and the slots in which the cell was sent from them.
-// A ninth port is kept, so that the plan sees a route that is too long.
-#[derive(Clone, Copy)]
+// A ninth port is kept, so that the plan sees a route that is too long; it takes no memory, however long a chain is.
+#[derive(Drop)]
 pub struct Found {
-    ports: [u8; 9],
+    ports: ArrayVec<u8, 9>,
     sent: [u32; 8],
-    len: usize,
 }

@@ -21,24 +21,18 @@ pub struct Head {
 fn kind_of(byte: u8, accepts: Accepts) -> Result<Kind, Refusal>
     ensures { KindRead accepts byte result }
 {
-    match (byte, accepts) {
-        (1, _) => Ok(Kind::Load),
-        (2, Accepts::AnyKind) => Ok(Kind::Recording),
-        (3, Accepts::AnyKind) => Ok(Kind::Replay),
-        _ => Err(Refusal::BadField(0)),
+    let kind = Kind::try_from(byte).map_err(|_| Refusal::BadField(0))?;
+    if accepts == Accepts::LoadsOnly && kind != Kind::Load {
+        return Err(Refusal::BadField(0));
     }
+    Ok(kind)
 }
 
 // The pile that its second byte names.
 fn pile_of(byte: u8) -> Result<Pile, Refusal>
     ensures { PileRead byte result }
 {
-    match byte {
-        0 => Ok(Pile::Fifo),
-        1 => Ok(Pile::Lifo),
-        2 => Ok(Pile::Aged),
-        _ => Err(Refusal::BadField(1)),
-    }
+    Pile::try_from(byte).map_err(|_| Refusal::BadField(1))
 }
 
 // The limits of the three counts.

@@ -2,11 +2,12 @@
 #![tactic(auto)]
 
 mod chain;
-mod gather;
+mod checked;
 mod head;
 mod image;
 mod marks;
 mod numbers;
+mod order;
 mod raw;
 mod schedule;
 

@@ -4,6 +4,7 @@ mod read;
 mod source;
 
 ghost use Rattle.std.specs.Prelude.{◌≡◌, ◌<◌, length, vec_len};
+ghost use Rattle.std.proofs.Props.{props};
 ghost use Rattle.plan.specs.Plans.{delays_of, cells_of};
 ghost use Rattle.schedule.specs.Marking.{AllMarked};
 
@@ -21,5 +22,5 @@ pub struct Schedule {
     ghost some_ports: { 0 < length (delays_of plan) },
     ghost some_cells: { 0 < length (cells_of plan) },
     ghost each_marked: { vec_len marks ≡ length (cells_of plan) },
-    ghost marks_fit: { ∥ AllMarked kind (cells_of plan) marks.items ∥₁ },
+    ghost marks_fit: { AllMarked kind (cells_of plan) marks.items } by { Prim.hlevel props },
 }

@@ -1,19 +1,20 @@
 // The walk along a chain.
-ghost use Rattle.std.specs.Prelude.{◌≡◌, ℕ, ◌+◌, ◌<◌, min, true, false, List, take, MatchResult, slice_index_or, slice_set};
+ghost use Rattle.std.specs.Prelude.{◌≡◌, ℕ, ◌<◌, true, false, List, [], ◌∷◌, ◌++◌, length, take, MatchResult, slice_index_or, slice_set};
 ghost use Rattle.refusal.specs.declared.Refusal.TheVariants.{BadChain};
 ghost use Rattle.layout.specs.Order.{reached};
-ghost use Rattle.schedule.specs.Chains.{Linked, Seen, Walked, Noted};
+ghost use Rattle.schedule.specs.Chains.{Seen, Walked, Noted};
 
 use crate::chain::Found;
-use crate::image::Image;
+use crate::checked::Checked;
+use arrayvec::ArrayVec;
 use refusal::Refusal;
 
-// Writes `x` at a place, where there is such a place.
-fn keep<T: Copy>(places: &mut [T], at: usize, x: T)
-    ensures { places.new ≡ slice_set places.old at x }
+// Writes a slot at a place, where there is such a place.
+fn keep(places: &mut [u32], at: usize, slot: u32)
+    ensures { places.new ≡ slice_set places.old at slot }
 {
     if at < places.len() {
-        places[at] = x;
+        places[at] = slot;
     }
 }
 
@@ -22,30 +23,27 @@ impl Found {
         ensures { (bs chain : List ℕ) → Noted bs chain 0 result }
     {
         Found {
-            ports: [0; 9],
+            ports: ArrayVec::new(),
             sent: [0; 8],
-            len: 0,
         }
     }
 
-    // One record more; what has no place is counted only.
+    // One record more; what has no place is let go.
     fn note(&mut self, port: u8, sent: u32)
-        requires { self.old.len < 2048 }
-        ensures len { self.new.len ≡ self.old.len + 1 }
-        ensures ports { self.new.ports ≡ slice_set self.old.ports self.old.len port }
-        ensures sent { self.new.sent ≡ slice_set self.old.sent self.old.len sent }
+        ensures ports { self.new.ports.items ≡ take 9 (self.old.ports.items ++ port ∷ []) }
+        ensures sent { self.new.sent ≡ slice_set self.old.sent (length self.old.ports.items) sent }
     {
-        let at = self.len;
-        keep(&mut self.ports, at, port);
-        keep(&mut self.sent, at, sent);
-        self.len = at + 1;
+        keep(&mut self.sent, self.ports.len(), sent);
+        if !self.ports.is_full() {
+            self.ports.push(port);
+        }
     }
 
     // The ports of the route, or the first 9 of them.
     pub(crate) fn ports(&self) -> &[u8]
-        ensures { result.now ≡ take (min self.now.len 9) self.now.ports }
+        ensures { result.now ≡ self.now.ports.items }
     {
-        &self.ports[0..self.len.min(9)]
+        self.ports.as_slice()
     }
 
     // The slots in which the cell was sent; past the route's end they are 0.
@@ -68,20 +66,21 @@ fn reach(seen: &mut [bool; 2049], index: usize) -> Result<(), Refusal>
     Ok(())
 }
 
-// Walks along the chain of a cell to its end.
-pub(crate) fn walk(image: &Image, cell: usize, seen: &mut [bool; 2049]) -> Result<Found, Refusal>
-    requires linked { Linked image.now.bytes.now }
-    requires known { cell < image.now.head.cells }
-    requires seen { Seen seen.old (reached image.now.bytes.now cell) }
-    ensures { Walked image.now.bytes.now cell result seen.new }
-{
-    let mut found = Found::none();
-    let mut index = usize::from(image.cell(cell).first);
-    while index != 0 {
-        reach(seen, index)?;
-        let hop = image.hop(index);
-        found.note(hop.port, hop.sent);
-        index = usize::from(hop.next);
+impl Checked<'_> {
+    // Walks along the chain of a cell to its end.
+    pub(crate) fn walk(&self, cell: usize, seen: &mut [bool; 2049]) -> Result<Found, Refusal>
+        requires known { cell < self.now.image.head.cells }
+        requires seen { Seen seen.old (reached self.now.image.bytes.now cell) }
+        ensures { Walked self.now.image.bytes.now cell result seen.new }
+    {
+        let mut found = Found::none();
+        let mut index = usize::from(self.image.cell(cell).first);
+        while index != 0 {
+            reach(seen, index)?;
+            let hop = self.image.hop(index);
+            found.note(hop.port, hop.sent);
+            index = usize::from(hop.next);
+        }
+        Ok(found)
     }
-    Ok(found)
 }

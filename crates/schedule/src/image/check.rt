@@ -4,6 +4,7 @@ ghost use Rattle.refusal.specs.Tests.{tested, each_below};
 ghost use Rattle.layout.specs.Order.{port_fields, cell_fields, hop_fields, field_tests};
 
 use crate::image::Image;
+use crate::order::test_each;
 use refusal::Refusal;
 
 impl Image<'_> {
@@ -13,7 +14,7 @@ impl Image<'_> {
     {
         let delay = self.delay(port);
         if delay == 0 || delay > 255 {
-            return Err(Refusal::BadDelay(8 + 2 * port));
+            return Err(Refusal::BadDelay(self.port_offset(port)));
         }
         Ok(())
     }
@@ -22,7 +23,7 @@ impl Image<'_> {
         requires { cell < self.now.head.cells }
         ensures { result ≡ tested (cell_fields self.now.bytes.now cell) }
     {
-        let at = 8 + 2 * self.head.ports + 10 * cell;
+        let at = self.cell_offset(cell);
         let raw = self.cell(cell);
         if raw.flow > 7 {
             return Err(Refusal::BadFlow(cell));
@@ -43,7 +44,7 @@ impl Image<'_> {
         requires { (0 < index) × (index ≤ self.now.head.hops) }
         ensures { result ≡ tested (hop_fields self.now.bytes.now index) }
     {
-        let at = 8 + 2 * self.head.ports + 10 * self.head.cells + 8 * (index - 1);
+        let at = self.hop_offset(index);
         let raw = self.hop(index);
         let next = usize::from(raw.next);
         if next != 0 && (next <= index || next > self.head.hops) {
@@ -58,38 +59,11 @@ impl Image<'_> {
         Ok(())
     }
 
-    fn test_ports(&self) -> Result<(), Refusal>
-        ensures { result ≡ tested (each_below self.now.head.ports (port_fields self.now.bytes.now)) }
-    {
-        for port in 0..self.head.ports {
-            self.test_port(port)?;
-        }
-        Ok(())
-    }
-
-    fn test_cells(&self) -> Result<(), Refusal>
-        ensures { result ≡ tested (each_below self.now.head.cells (cell_fields self.now.bytes.now)) }
-    {
-        for cell in 0..self.head.cells {
-            self.test_cell(cell)?;
-        }
-        Ok(())
-    }
-
-    fn test_hops(&self) -> Result<(), Refusal>
-        ensures { result ≡ tested (each_below self.now.head.hops (λ k. hop_fields self.now.bytes.now (k + 1))) }
-    {
-        for k in 0..self.head.hops {
-            self.test_hop(k + 1)?;
-        }
-        Ok(())
-    }
-
     pub(crate) fn test_fields(&self) -> Result<(), Refusal>
         ensures { result ≡ tested (field_tests self.now.bytes.now) }
     {
-        self.test_ports()?;
-        self.test_cells()?;
-        self.test_hops()
+        test_each(self.head.ports, |port| self.test_port(port))?;
+        test_each(self.head.cells, |cell| self.test_cell(cell))?;
+        test_each(self.head.hops, |k| self.test_hop(k + 1))
     }
 }

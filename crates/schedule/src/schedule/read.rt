@@ -2,8 +2,7 @@
 ghost use Rattle.layout.specs.declared.kind.Accepts.TheVariants.{AnyKind, LoadsOnly};
 ghost use Rattle.schedule.specs.Reading.{Answers};
 
-use crate::gather::{gather_cells, open_plan};
-use crate::head::Head;
+use crate::checked::Checked;
 use crate::image::Image;
 use crate::schedule::Schedule;
 use layout::Accepts;
@@ -13,14 +12,13 @@ use std::alloc::Global;
 fn read_kinds(heap: Global, bytes: &[u8], accepts: Accepts) -> Result<Schedule, Refusal>
     ensures { Answers accepts bytes.now result }
 {
-    let head = Head::read(bytes, accepts)?;
-    let image = Image::new(bytes, head);
-    image.test_fields()?;
-    let mut plan = open_plan(&image, heap)?;
-    let marks = gather_cells(&image, heap, &mut plan)?;
+    let image = Image::read(bytes, accepts)?;
+    let checked = Checked::new(image)?;
+    let mut plan = checked.open_plan(heap)?;
+    let marks = checked.gather_cells(heap, &mut plan)?;
     Ok(Schedule {
-        kind: head.kind,
-        pile: head.pile,
+        kind: image.kind(),
+        pile: image.pile(),
         plan,
         marks,
     })

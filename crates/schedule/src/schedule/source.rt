@@ -32,12 +32,7 @@ impl Source for Schedule {
 
     fn cell(&self, cell: usize) -> CellFields {
         let Some(planned) = self.plan.cell(cell) else {
-            return CellFields {
-                entry: 0,
-                flow: 0,
-                slack: 0,
-                hops: 0,
-            };
+            return CellFields::default();
         };
         let slack = self.marks[cell].slack;
         let hops = planned.route().ports().len();
@@ -50,14 +45,13 @@ impl Source for Schedule {
     }
 
     fn hop(&self, cell: usize, position: usize) -> HopFields {
-        let none = HopFields { port: 0, sent: 0 };
         let Some(planned) = self.plan.cell(cell) else {
-            return none;
+            return HopFields::default();
         };
         let route = planned.route();
         let ports = route.ports();
         if position >= ports.len() {
-            return none;
+            return HopFields::default();
         }
         HopFields {
             port: ports[position],

@@ -1,4 +1,4 @@
-use Rattle.std.proofs.Common.{length, sym, refl, ap, ◌∙◌, subst, w32, SFits, rules}
+use Rattle.std.proofs.Common.{length, sym, ap, ◌∙◌, subst, w32, SFits, rules}
 use Rattle.std.proofs.lemmas.Int.{to_z-of_z}
 use Rattle.plan.specs.Cells.{planned, ports_of}
 use Rattle.layout.specs.Sources.{TellsCell}
@@ -8,7 +8,7 @@ use Rattle.schedule.proofs.schedule.source.ScheduleSource.cell.Goals as goal
 pub returns-in_default : goal.returns-in_default
 returns-in_default c =
     subst (TellsCell _) (sym (cell_past c.args.self.now c.args.cell c.in_default.ensures))
-    (record { entry = refl; flow = refl; slack = refl; hops = refl })
+    (let z = c.default.ensures in record { entry = z.0; flow = z.1.0; slack = z.1.1.0; hops = z.1.1.1 })
 
 pub returns : goal.returns
 returns c =

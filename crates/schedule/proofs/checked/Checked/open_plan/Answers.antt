@@ -6,7 +6,7 @@ use Rattle.layout.specs.Fields.{port_count}
 use Rattle.schedule.specs.Gathering.{Ported}
 use Rattle.schedule.proofs.Fielded.{delay_fits}
 use Rattle.schedule.proofs.Gathered.{port_passes, ported_more}
-use Rattle.schedule.proofs.gather.open_plan.Goals as goal
+use Rattle.schedule.proofs.checked.Checked.open_plan.Goals as goal
 
 pub loop-port-init : goal.loop-port-init
 loop-port-init c =
@@ -15,7 +15,7 @@ loop-port-init c =
 
 pub loop-port-preserved : goal.loop-port-preserved
 loop-port-preserved c =
-    let bs = c.args.image.now.bytes.now in
+    let bs = c.args.self.now.image.bytes.now in
     let h = c.in_ok-add_port.ensures in (
       subst (λ ds. Ported bs (c.loop-port.port + 1) ds) (sym h.2.delays)
           (ported_more bs c.loop-port.port c.delay.result (delays_of c.loop-port.plan) c.delay.ensures c.loop-port.invariant.0),
@@ -25,10 +25,10 @@ loop-port-preserved c =
 pub returns-in_err-add_port : goal.returns-in_err-add_port
 returns-in_err-add_port c =
     let p = err_from_is_err_and c.from_residual.result c.from_residual.ensures.1 in
-    let bs = c.args.image.now.bytes.now in
+    let bs = c.args.self.now.image.bytes.now in
     let h = c.in_err-add_port.ensures in
     let in' : c.loop-port.port < port_count bs = omega arith in
-    let f = delay_fits bs c.requires c.loop-port.port in' in
+    let f = delay_fits bs c.args.self.now.passed c.loop-port.port in' in
     let e = c.delay.ensures in
     let n = c.loop-port.invariant.0.count in
     let few : length (delays_of c.loop-port.plan) < 32 = omega arith in
@@ -36,6 +36,6 @@ returns-in_err-add_port c =
 
 pub returns : goal.returns
 returns c =
-    let bs = c.args.image.now.bytes.now in
+    let bs = c.args.self.now.image.bytes.now in
     let e : c.loop-port.port ≡ port_count bs = omega arith in
     (subst (λ n. Ported bs n (delays_of c.loop-port.plan)) e c.loop-port.invariant.0, c.loop-port.invariant.1)
