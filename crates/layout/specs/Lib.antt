@@ -7,3 +7,4 @@ pub mod Canonical
 pub mod RoundTrip
 pub mod Sources
 pub mod Placed
+pub mod Words

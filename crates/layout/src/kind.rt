@@ -1,7 +1,10 @@
-// What kind of schedule a file holds, and the queue discipline that it names: enums, and the bytes that stand for them.
-ghost use Rattle.std.specs.Prelude.{◌≡◌};
+// What kind of schedule a file holds, and the queue discipline that it names: enums, the bytes that stand for them, and the words for them.
+ghost use Rattle.std.specs.Prelude.{◌≡◌, Some};
 ghost use Rattle.layout.specs.Contents.{kind_number, pile_number};
 ghost use Rattle.layout.specs.Decoding.{Decodes};
+ghost use Rattle.layout.specs.Words.{kind_word, pile_words};
+
+use std::fmt;
 
 #[derive(Clone, Copy, PartialEq, Eq, Debug)]
 pub enum Kind {
@@ -86,5 +89,29 @@ impl TryFrom<u8> for Pile {
             2 => Ok(Pile::Aged),
             _ => Err(UnknownByte(byte)),
         }
+    }
+}
+
+impl fmt::Display for Kind {
+    ghost output = { λ kind. Some (kind_word kind) };
+
+    fn fmt<W: fmt::Write>(&self, f: &mut fmt::Formatter<W>) -> fmt::Result {
+        f.write_str(match self {
+            Kind::Load => "load",
+            Kind::Recording => "recording",
+            Kind::Replay => "replay",
+        })
+    }
+}
+
+impl fmt::Display for Pile {
+    ghost output = { λ pile. Some (pile_words pile) };
+
+    fn fmt<W: fmt::Write>(&self, f: &mut fmt::Formatter<W>) -> fmt::Result {
+        f.write_str(match self {
+            Pile::Fifo => "0 fifo",
+            Pile::Lifo => "1 lifo",
+            Pile::Aged => "2 ageing 16 over classes 4 over fifo and lifo",
+        })
     }
 }

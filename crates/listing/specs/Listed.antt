@@ -6,23 +6,11 @@ use Rattle.layout.specs.Contents.{Hop, Scheduled, Content}
 use Rattle.layout.specs.declared.kind.Kind.{Kind}
 use Rattle.layout.specs.declared.kind.Kind.TheVariants.{Load, Recording, Replay}
 use Rattle.layout.specs.declared.kind.Pile.{Pile}
-use Rattle.layout.specs.declared.kind.Pile.TheVariants.{Fifo, Lifo, Aged}
+use Rattle.layout.specs.Words.{kind_word, pile_words}
 
 -- what ends a line
 abbrev pub feed : List ℕ
 feed = 10 ∷ []
-
--- the word for a kind
-abbrev pub kind_word : Kind → List ℕ
-kind_word Load = codes "load"
-kind_word Recording = codes "recording"
-kind_word Replay = codes "replay"
-
--- the number of a queue discipline, and the words for it
-abbrev pub pile_words : Pile → List ℕ
-pile_words Fifo = codes "0 fifo"
-pile_words Lifo = codes "1 lifo"
-pile_words Aged = codes "2 ageing 16 over classes 4 over fifo and lifo"
 
 -- the lines of the items, of which the first has the number i
 abbrev pub lines_from : {X : Type 0} → (ℕ → X → List ℕ) → ℕ → List X → List ℕ

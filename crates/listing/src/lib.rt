@@ -4,40 +4,18 @@
 mod cell;
 
 ghost use Rattle.std.specs.Prelude.{◌≡◌, ◌++◌, IfOk, string_bytes, OnOk};
-ghost use Rattle.listing.specs.Listed.{kind_word, pile_words, kind_line, pile_line, port_line, lines_from, cell_line, listed};
+ghost use Rattle.listing.specs.Listed.{kind_line, pile_line, port_line, lines_from, cell_line, listed};
 
 use crate::cell::write_cell;
 use layout::{Kind, Pile, Source};
 use std::alloc::{AllocError, Global};
 
-// The word for a kind.
-fn kind_word(kind: Kind) -> &'static str
-    ensures { result.now ≡ kind_word kind }
-{
-    match kind {
-        Kind::Load => "load",
-        Kind::Recording => "recording",
-        Kind::Replay => "replay",
-    }
-}
-
-// The number of a queue discipline, and the words for it.
-fn pile_words(pile: Pile) -> &'static str
-    ensures { result.now ≡ pile_words pile }
-{
-    match pile {
-        Pile::Fifo => "0 fifo",
-        Pile::Lifo => "1 lifo",
-        Pile::Aged => "2 ageing 16 over classes 4 over fifo and lifo",
-    }
-}
-
 // Writes the first two lines: what kind of schedule it is, and the queue discipline.
 fn write_head(text: &mut String, kind: Kind, pile: Pile) -> Result<(), AllocError>
     ensures { OnOk result (string_bytes text.new ≡ string_bytes text.old ++ (kind_line kind ++ pile_line pile)) }
 {
-    writeln!(text, "kind {}", kind_word(kind))?;
-    writeln!(text, "pile {}", pile_words(pile))
+    writeln!(text, "kind {kind}")?;
+    writeln!(text, "pile {pile}")
 }
 
 // Writes a line for each port.

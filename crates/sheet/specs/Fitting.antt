@@ -1,51 +1,19 @@
 -- What a sheet tells can be held by a file.
 use Rattle.std.specs.Prelude.{◌≡◌, ℕ, ◌+◌, ◌<◌, List, map, length, get_or, take, ℤ, FitsSigned, ◌≢◌, slice_index, slice_index_or}
 use Rattle.std.proofs.Common.{sym, ap, subst, ◌∙◌, arith, Fits}
-use Rattle.std.proofs.Math.Bridge.{le_prop}
-use std.HLevel.{Π_prop}
-use denote.Struct.Props.{props}
 use Rattle.std.specs.Int.{w32}
 use Rattle.std.proofs.lemmas.List.{ext_get_or, length-map, get_or-map}
-use Rattle.plan.specs.Cells.{Planned, no_cell, hops_in, Delays, Fitting, Cells}
+use Rattle.plan.specs.Cells.{Planned, no_cell, hops_in, Delays, Fitting}
 use Rattle.plan.specs.Plans.{delays_of, cells_of}
 use Rattle.plan.specs.declared.plan.Plan.{Plan}
 use Rattle.plan.proofs.Facts.{few_ports_lem, few_cells_lem, delays_fit_lem, cells_fit}
 use Rattle.layout.specs.Contents.{Scheduled, Content, Fit, Marked, no_hop, no_scheduled, plan_part}
-use Rattle.layout.specs.declared.kind.Kind.{Kind}
 use Rattle.layout.specs.declared.kind.Kind.TheVariants.{Load}
 use Rattle.layout.specs.declared.kind.Pile.{Pile}
 use Rattle.sheet.specs.Runs.{kind_of}
 use Rattle.sheet.specs.Sheets.{Told, Tells}
 use Rattle.sheet.specs.declared.run.Run.{Run}
 use Rattle.sheet.specs.declared.run.Run.TheVariants.{Recording, Replay}
-
-marked_prop : (k : Kind) (x : Scheduled) → IsProp (Marked k x)
-marked_prop k x = hlevel props
-
-delays_prop : (ds : List ℕ) → IsProp (Delays ds)
-delays_prop ds = Π_prop λ p. Π_prop λ l. λ a b i. (le_prop a.0 b.0 i, le_prop a.1 b.1 i)
-
-fitting_prop : (n : ℕ) (c : Planned) → IsProp (Fitting n c)
-fitting_prop n c = hlevel props
-
-cells_prop : (n : ℕ) (cs : List Planned) → IsProp (Cells n cs)
-cells_prop n cs = Π_prop λ k. Π_prop λ l. fitting_prop n (slice_index_or cs k no_cell)
-
-marks_prop : (x : Content) → IsProp ((c : ℕ) → c < length x.cells → Marked x.kind (slice_index_or x.cells c no_scheduled))
-marks_prop x = Π_prop λ c. Π_prop λ l. marked_prop x.kind (slice_index_or x.cells c no_scheduled)
-
--- that a file can hold a content has one proof at most
-pub fit_prop : (x : Content) → IsProp (Fit x)
-fit_prop x a b =
-    λ i. record {
-      has_ports = le_prop a.has_ports b.has_ports i;
-      few_ports = le_prop a.few_ports b.few_ports i;
-      delays = delays_prop _ a.delays b.delays i;
-      has_cells = le_prop a.has_cells b.has_cells i;
-      few_cells = le_prop a.few_cells b.few_cells i;
-      cells = cells_prop _ _ a.cells b.cells i;
-      marks = marks_prop x a.marks b.marks i;
-    }
 
 -- no run makes a load
 not_load : (run : Run) → kind_of run ≢ Load

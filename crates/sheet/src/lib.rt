@@ -28,12 +28,11 @@ mod tests {
         Ok(plan)
     }
 
-    // The number by which a sheet is refused, or 255 where it is made.
-    fn refused(plan: &Plan, slacks: &[i32], slots: &[u32]) -> u8 {
-        match Sheet::new(Run::Replay, Pile::Fifo, plan, slacks, slots) {
-            Ok(_) => 255,
-            Err(refusal) => refusal.number(),
-        }
+    // The number by which a sheet is refused, or none where it is made.
+    fn refused(plan: &Plan, slacks: &[i32], slots: &[u32]) -> Option<u8> {
+        Sheet::new(Run::Replay, Pile::Fifo, plan, slacks, slots)
+            .err()
+            .map(|refusal| refusal.number())
     }
 
     #[test]
@@ -53,10 +52,10 @@ mod tests {
     #[test]
     fn short_memory_is_refused(rt: HostRuntime) -> Result<(), Fail> {
         let plan = crossing(rt.alloc())?;
-        assert!(rt; refused(&plan, &[0, 0], &[1, 2]) == 21);
-        assert!(rt; refused(&plan, &[0], &[1, 2, 3]) == 21);
-        assert!(rt; refused(&plan, &[0, 0], &[1, 2, 3]) == 255);
-        assert!(rt; refused(&Plan::new(rt.alloc()), &[], &[]) == 12);
+        assert!(rt; refused(&plan, &[0, 0], &[1, 2]) == Some(21));
+        assert!(rt; refused(&plan, &[0], &[1, 2, 3]) == Some(21));
+        assert!(rt; refused(&plan, &[0, 0], &[1, 2, 3]).is_none());
+        assert!(rt; refused(&Plan::new(rt.alloc()), &[], &[]) == Some(12));
         Ok(())
     }
 }

@@ -12,12 +12,12 @@ pub enum Run {
     Replay,
 }
 
-impl Run {
-    // The kind of its file.
-    pub(crate) fn kind(self) -> Kind
-        ensures { result ≡ kind_of self }
-    {
-        match self {
+// The kind of its file.
+impl From<Run> for Kind {
+    ghost from_gives = { λ run kind. kind ≡ kind_of run };
+
+    fn from(run: Run) -> Kind {
+        match run {
             Run::Recording => Kind::Recording,
             Run::Replay => Kind::Replay,
         }

@@ -3,6 +3,7 @@ mod build;
 mod source;
 
 ghost use Rattle.std.specs.Prelude.{◌≡◌, ◌≤◌, map, length, take};
+ghost use Rattle.std.proofs.Props.{props};
 ghost use Rattle.layout.specs.Contents.{Fit, total_hops};
 ghost use Rattle.sheet.specs.Rows.{scheduled, content_from};
 
@@ -24,5 +25,5 @@ pub struct Sheet {
     ghost few_cells: { cells ≤ 256 },
     ghost long: { length rows ≡ 256 },
     ghost all_hops: { hops ≡ total_hops (map scheduled (take cells rows)) },
-    ghost fit: { ∥ Fit (content_from run pile ports delays cells rows) ∥₁ },
+    ghost fit: { Fit (content_from run pile ports delays cells rows) } by { Prim.hlevel props },
 }

@@ -15,13 +15,8 @@ impl Row {
         ensures { scheduled result ≡ no_scheduled }
     {
         Row {
-            fields: CellFields {
-                entry: 0,
-                flow: 0,
-                slack: 0,
-                hops: 0,
-            },
-            hops: [HopFields { port: 0, sent: 0 }; 8],
+            fields: CellFields::default(),
+            hops: [HopFields::default(); 8],
         }
     }
 
@@ -32,7 +27,7 @@ impl Row {
     {
         let route = cell.route();
         let ports = route.ports();
-        let mut hops = [HopFields { port: 0, sent: 0 }; 8];
+        let mut hops = [HopFields::default(); 8];
         for position in 0..ports.len() {
             hops[position] = HopFields {
                 port: ports[position],

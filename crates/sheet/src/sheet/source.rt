@@ -1,7 +1,5 @@
 // A sheet tells its content to the writer.
 ghost use Rattle.sheet.specs.Sheets.{content_of};
-ghost use Rattle.std.proofs.Math.Logic.{∥∥₁_elim};
-ghost use Rattle.sheet.specs.Fitting.{fit_prop};
 
 use crate::sheet::Sheet;
 use layout::{CellFields, HopFields, Kind, Pile, Source};
@@ -9,10 +7,10 @@ use layout::{CellFields, HopFields, Kind, Pile, Source};
 impl Source for Sheet {
     ghost content = { content_of };
 
-    ghost fits = { λ s. ∥∥₁_elim s.fit (fit_prop (content_of s)) (λ h. h) };
+    ghost fits = { λ s. s.fit };
 
     fn kind(&self) -> Kind {
-        self.run.kind()
+        self.run.into()
     }
 
     fn pile(&self) -> Pile {
@@ -39,12 +37,7 @@ impl Source for Sheet {
         if cell < self.cells {
             self.rows[cell].fields
         } else {
-            CellFields {
-                entry: 0,
-                flow: 0,
-                slack: 0,
-                hops: 0,
-            }
+            CellFields::default()
         }
     }
 
@@ -52,7 +45,7 @@ impl Source for Sheet {
         if cell < self.cells && position < self.rows[cell].fields.hops {
             self.rows[cell].hops[position]
         } else {
-            HopFields { port: 0, sent: 0 }
+            HopFields::default()
         }
     }
 

@@ -57,7 +57,7 @@ invariant_of-result c =
       few_cells = omega arith;
       long = m.long;
       all_hops = c.hops-hops.ensures ∙ all_hops c.args.run c.args.pile p _ _ _ _ _ _ m;
-      fit = ∣ fit c.args.run c.args.pile p _ _ _ _ _ _ m (omega arith) c.type_inv.slots ∣₁;
+      fit = fit c.args.run c.args.pile p _ _ _ _ _ _ m (omega arith) c.type_inv.slots;
     }
 
 pub returns : goal.returns

@@ -26,4 +26,4 @@ returns-else-cell-self c =
     let few = s.few_cells in
     let long = s.long in
     subst (TellsCell _) (sym (row_past s.cells s.rows (omega arith) c.args.cell (omega arith)))
-    (record { entry = refl; flow = refl; slack = refl; hops = refl })
+    (let z = c.default.ensures in record { entry = z.0; flow = z.1.0; slack = z.1.1.0; hops = z.1.1.1 })

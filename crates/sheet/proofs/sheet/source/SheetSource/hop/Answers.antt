@@ -51,4 +51,4 @@ returns-else-cell-self c =
           let long = s.long in
           ap (λ x. get_or x.hops h no_hop) (row_past s.cells s.rows (omega arith) k w.if-cell-self.false))
     ] in
-    subst (TellsHop _) (sym none) (record { port = refl; sent = refl })
+    subst (TellsHop _) (sym none) (record { port = c.default.ensures.0; sent = c.default.ensures.1 })
