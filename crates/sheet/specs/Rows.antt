@@ -1,15 +1,11 @@
 -- The content that rows hold.
-use Rattle.std.specs.Prelude.{ℕ, List, map, take}
+use Rattle.std.specs.Prelude.{ℕ, List, map}
 use Rattle.layout.specs.Contents.{Hop, Scheduled, Content}
 use Rattle.layout.specs.declared.fields.HopFields.{HopFields}
 use Rattle.layout.specs.declared.kind.Pile.{Pile}
 use Rattle.sheet.specs.Runs.{kind_of}
 use Rattle.sheet.specs.declared.row.Row.{Row}
 use Rattle.sheet.specs.declared.run.Run.{Run}
-
--- what stands past the last hop of a row
-abbrev pub no_fields : HopFields
-no_fields = record { port = 0; sent = 0 }
 
 abbrev pub hop_of : HopFields → Hop
 hop_of f = record { port = f.port; sent = f.sent }
@@ -18,13 +14,12 @@ hop_of f = record { port = f.port; sent = f.sent }
 abbrev pub scheduled : Row → Scheduled
 scheduled r =
     record {
-      entry = r.fields.entry;
-      flow = r.fields.flow;
-      slack = r.fields.slack;
-      hops = map hop_of (take r.fields.hops r.hops);
+      entry = r.entry;
+      flow = r.flow;
+      slack = r.slack;
+      hops = map hop_of r.hops.items;
     }
 
--- so many delays and rows from the front
-abbrev pub content_from : Run → Pile → ℕ → List ℕ → ℕ → List Row → Content
-content_from run pile ports ds cells rs =
-    record { kind = kind_of run; pile = pile; delays = take ports ds; cells = map scheduled (take cells rs) }
+-- these delays and rows
+abbrev pub content_from : Run → Pile → List ℕ → List Row → Content
+content_from run pile ds rs = record { kind = kind_of run; pile = pile; delays = ds; cells = map scheduled rs }

@@ -15,7 +15,7 @@ use Rattle.sheet.specs.declared.run.Run.{Run}
 use Rattle.sheet.specs.declared.sheet.Sheet.{Sheet}
 
 abbrev pub content_of : Sheet → Content
-content_of s = content_from s.run s.pile s.ports s.delays s.cells s.rows
+content_of s = content_from s.run s.pile s.delays.items s.rows.items
 
 -- x is the cell c with the slack s, sent in the slots that stand in ss from the index first on
 pub record Told (c : Planned) (s : ℤ) (ss : List ℕ) (first : ℕ) (x : Scheduled) : Type 0 where
@@ -30,6 +30,10 @@ pub record Told (c : Planned) (s : ℤ) (ss : List ℕ) (first : ℕ) (x : Sched
 abbrev pub EachTold : List Planned → List ℤ → List ℕ → List Scheduled → Type 0
 EachTold cs xs ss ys =
     (k : ℕ) → k < length cs → Told (slice_index_or cs k no_cell) (slice_index_or xs k (pos 0)) ss (hops_in (take k cs)) (slice_index_or ys k no_scheduled)
+
+-- and no cell is told but those
+abbrev pub RowsTold : List Planned → List ℤ → List ℕ → List Scheduled → Type 0
+RowsTold cs xs ss ys = (length ys ≡ length cs) × EachTold cs xs ss ys
 
 -- the content x tells of ports with the delays ds, and of the cells cs with their slacks xs and their sent slots ss
 pub record Tells (k : Kind) (p : Pile) (ds : List ℕ) (cs : List Planned) (xs : List ℤ) (ss : List ℕ) (x : Content) : Type 0 where

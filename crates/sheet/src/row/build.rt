@@ -1,47 +1,61 @@
-// How a row is made.
-ghost use Rattle.std.specs.Prelude.{◌≡◌, ◌+◌, ◌≤◌, length};
+// How a row is made, and what it tells.
+ghost use Rattle.std.specs.Prelude.{◌≡◌, length};
 ghost use Rattle.plan.specs.Cells.{ports_of, planned};
 ghost use Rattle.layout.specs.Contents.{no_scheduled};
+ghost use Rattle.layout.specs.Sources.{TellsCell};
 ghost use Rattle.sheet.specs.Rows.{scheduled};
 ghost use Rattle.sheet.specs.Sheets.{Told};
 
 use crate::row::Row;
+use arrayvec::ArrayVec;
 use layout::{CellFields, HopFields};
 use plan::Cell;
 
-impl Row {
-    // The row of no cell.
-    pub(crate) fn blank() -> Row
-        ensures { scheduled result ≡ no_scheduled }
-    {
+// The row of no cell.
+impl Default for Row {
+    ghost is_default = { λ row. scheduled row ≡ no_scheduled };
+
+    fn default() -> Row {
         Row {
-            fields: CellFields::default(),
-            hops: [HopFields::default(); 8],
+            entry: 0,
+            flow: 0,
+            slack: 0,
+            hops: ArrayVec::new(),
         }
     }
+}
 
-    // The row of a cell with its slack, whose sent slots stand in `slots` from index `first` on.
-    pub(crate) fn new(cell: Cell, slack: i32, slots: &[u32], first: usize) -> Row
-        requires { first + length (ports_of cell.route) ≤ length slots.now }
-        ensures { Told (planned cell) slack slots.now first (scheduled result) }
+impl Row {
+    // The row of a cell with its slack, sent in these slots.
+    pub(crate) fn new(cell: Cell, slack: i32, slots: &[u32]) -> Row
+        requires { length slots.now ≡ length (ports_of cell.route) }
+        ensures { Told (planned cell) slack slots.now 0 (scheduled result) }
     {
         let route = cell.route();
         let ports = route.ports();
-        let mut hops = [HopFields::default(); 8];
-        for position in 0..ports.len() {
-            hops[position] = HopFields {
-                port: ports[position],
-                sent: slots[first + position],
-            };
+        let mut hops = ArrayVec::new();
+        for (port, sent) in ports.iter().zip(slots) {
+            hops.push(HopFields {
+                port: *port,
+                sent: *sent,
+            });
         }
         Row {
-            fields: CellFields {
-                entry: cell.entry(),
-                flow: cell.flow(),
-                slack,
-                hops: ports.len(),
-            },
+            entry: cell.entry(),
+            flow: cell.flow(),
+            slack,
             hops,
+        }
+    }
+
+    pub(crate) fn fields(&self) -> CellFields
+        ensures { TellsCell result (scheduled self.now) }
+    {
+        CellFields {
+            entry: self.entry,
+            flow: self.flow,
+            slack: self.slack,
+            hops: self.hops.len(),
         }
     }
 }

@@ -1,39 +1,41 @@
 // How a sheet is made.
-ghost use Rattle.std.specs.Prelude.{◌≡◌, ◌-◌, ◌≤◌, ◌++◌, map, length, replicate};
+ghost use Rattle.std.specs.Prelude.{◌≡◌, ◌≤◌, map, length};
 ghost use Rattle.plan.specs.Cells.{planned, hops_in};
 ghost use Rattle.sheet.specs.Rows.{scheduled};
-ghost use Rattle.sheet.specs.Sheets.{EachTold, OneTelling, Answers};
+ghost use Rattle.sheet.specs.Sheets.{RowsTold, OneTelling, Answers};
 
 use crate::row::Row;
 use crate::run::Run;
 use crate::sheet::Sheet;
+use arrayvec::ArrayVec;
 use layout::Pile;
 use plan::{Cell, Plan};
 use refusal::Refusal;
 
-// The delays at the front, and zeros behind them.
-fn padded(delays: &[u8]) -> [u8; 32]
+// The delays, as the sheet keeps them.
+fn kept(delays: &[u8]) -> ArrayVec<u8, 32>
     requires { length delays.now ≤ 32 }
-    ensures { result ≡ delays.now ++ replicate (32 - length delays.now) 0 }
+    ensures { result.items ≡ delays.now }
 {
-    let mut all = [0; 32];
-    all[0..delays.len()].copy_from_slice(delays);
-    all
+    let mut kept = ArrayVec::new();
+    for delay in delays {
+        kept.push(*delay);
+    }
+    kept
 }
 
-// The rows of the cells, from the front: each with its slack, and with its part of the slots, which stand cell by cell
-// along each route.
-fn rows_of(cells: &[Cell], slacks: &[i32], slots: &[u32]) -> [Row; 256]
+// The rows of the cells: each with its slack, and with its part of the slots, which stand cell by cell along each route.
+fn rows_of(cells: &[Cell], slacks: &[i32], slots: &[u32]) -> ArrayVec<Row, 256>
     requires cells_len_bound { (length cells.now ≤ 256) × (length cells.now ≤ length slacks.now) }
     requires cells_in_bounds { hops_in (map planned cells.now) ≤ length slots.now }
-    ensures { (length result ≡ 256) × (EachTold (map planned cells.now) slacks.now slots.now (map scheduled result)) }
+    ensures { RowsTold (map planned cells.now) slacks.now slots.now (map scheduled result.items) }
 {
-    let mut rows = [Row::blank(); 256];
-    let mut first = 0;
-    for k in 0..cells.len() {
-        let cell = cells[k];
-        rows[k] = Row::new(cell, slacks[k], slots, first);
-        first += cell.route().ports().len();
+    let mut rows = ArrayVec::new();
+    let mut rest = slots;
+    for (cell, slack) in cells.iter().zip(slacks) {
+        let (sent, behind) = rest.split_at(cell.route().ports().len());
+        rows.push(Row::new(*cell, *slack, sent));
+        rest = behind;
     }
     rows
 }
@@ -51,7 +53,6 @@ impl Sheet {
         ensures answers { Answers run pile plan.now slacks.now slots.now result }
         ensures one { OneTelling }
     {
-        let ports = plan.ports();
         let cells = plan.cells();
         let hops = plan.hops();
         if cells == 0 {
@@ -63,9 +64,7 @@ impl Sheet {
         Ok(Sheet {
             run,
             pile,
-            ports,
-            delays: padded(plan.delays()),
-            cells,
+            delays: kept(plan.delays()),
             rows: rows_of(plan.all_cells(), slacks, slots),
             hops,
         })

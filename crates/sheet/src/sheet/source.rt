@@ -1,6 +1,7 @@
 // A sheet tells its content to the writer.
 ghost use Rattle.sheet.specs.Sheets.{content_of};
 
+use crate::row::Row;
 use crate::sheet::Sheet;
 use layout::{CellFields, HopFields, Kind, Pile, Source};
 
@@ -18,35 +19,27 @@ impl Source for Sheet {
     }
 
     fn ports(&self) -> usize {
-        self.ports
+        self.delays.len()
     }
 
     fn delay(&self, port: usize) -> u8 {
-        if port < self.ports {
-            self.delays[port]
-        } else {
-            0
-        }
+        self.delays.get(port).copied().unwrap_or_default()
     }
 
     fn cells(&self) -> usize {
-        self.cells
+        self.rows.len()
     }
 
     fn cell(&self, cell: usize) -> CellFields {
-        if cell < self.cells {
-            self.rows[cell].fields
-        } else {
-            CellFields::default()
-        }
+        self.rows.get(cell).map(Row::fields).unwrap_or_default()
     }
 
     fn hop(&self, cell: usize, position: usize) -> HopFields {
-        if cell < self.cells && position < self.rows[cell].fields.hops {
-            self.rows[cell].hops[position]
-        } else {
-            HopFields::default()
-        }
+        self.rows
+            .get(cell)
+            .and_then(|row| row.hops.get(position))
+            .copied()
+            .unwrap_or_default()
     }
 
     fn hops(&self) -> usize {
