@@ -5,7 +5,8 @@
 #[cfg(test)]
 mod tests {
     use layout::{file_length, write};
-    use schedule::Schedule;
+    use refusal::Refusal;
+    use schedule::{Schedule, read_bytes};
     use std::alloc::Global;
     use std::process::Abort;
     use std::test::Fail;
@@ -15,31 +16,23 @@ mod tests {
         1, 0, 0, 1, 0, 1, 0, 1, 0, 1, 0, 9, 0, 0, 0, 1, 0, 0, 0, 0, 0, 0, 0, 0, 0, 0, 0, 0,
     ];
 
-    fn refused(
-        rt: &impl Abort,
-        heap: Global,
-        what: &str,
-        bytes: &[u8],
-        number: u8,
-        place: usize,
-    ) -> Result<(), Fail> {
-        match Schedule::read(heap, bytes) {
-            Ok(_) => {
-                assert!(rt; false, "{}: it was accepted", what);
-                Ok(())
-            }
-            Err(refusal) => {
-                assert_eq!(rt; refusal.number(), number, "{}", what);
-                assert_eq!(rt; refusal.place(), place, "{}", what);
-                Ok(())
-            }
-        }
+    // The number and the place of a refusal, if there was one.
+    fn refusal<T: Drop>(answer: Result<T, Refusal>) -> Option<(u8, usize)> {
+        answer
+            .err()
+            .map(|refusal| (refusal.number(), refusal.place()))
+    }
+
+    // Asserts that a file is refused by this number, at this place.
+    fn refused(rt: &impl Abort, heap: Global, what: &str, bytes: &[u8], number: u8, place: usize) {
+        let found = refusal(Schedule::read(heap, bytes));
+        assert_eq!(rt; found, Some((number, place)), "{}", what);
     }
 
     #[test]
     fn lengths(rt: HostRuntime) -> Result<(), Fail> {
         let heap = rt.alloc();
-        refused(&rt, heap, "no bytes", b"", 1, 0)?;
+        refused(&rt, heap, "no bytes", b"", 1, 0);
         refused(
             &rt,
             heap,
@@ -47,7 +40,7 @@ mod tests {
             b"\x01\x00\x00\x01\x00\x01\x00",
             1,
             7,
-        )?;
+        );
         refused(
             &rt,
             heap,
@@ -55,7 +48,7 @@ mod tests {
             b"\x01\x00\x00\x01\x00\x01\x00\x01\x00\x01\x00\x09\x00\x00\x00\x01\x00\x00\x00\x00\x00\x00\x00\x00\x00\x00\x00",
             1,
             27,
-        )?;
+        );
         refused(
             &rt,
             heap,
@@ -63,7 +56,8 @@ mod tests {
             b"\x01\x00\x00\x01\x00\x01\x00\x01\x00\x01\x00\x09\x00\x00\x00\x01\x00\x00\x00\x00\x00\x00\x00\x00\x00\x00\x00\x00\x00",
             1,
             29,
-        )
+        );
+        Ok(())
     }
 
     #[test]
@@ -76,7 +70,7 @@ mod tests {
             b"\x00\x00\x00\x01\x00\x01\x00\x01\x00\x01\x00\x09\x00\x00\x00\x01\x00\x00\x00\x00\x00\x00\x00\x00\x00\x00\x00\x00",
             2,
             0,
-        )?;
+        );
         refused(
             &rt,
             heap,
@@ -84,7 +78,7 @@ mod tests {
             b"\x04\x00\x00\x01\x00\x01\x00\x01\x00\x01\x00\x09\x00\x00\x00\x01\x00\x00\x00\x00\x00\x00\x00\x00\x00\x00\x00\x00",
             2,
             0,
-        )?;
+        );
         refused(
             &rt,
             heap,
@@ -92,7 +86,7 @@ mod tests {
             b"\x01\x03\x00\x01\x00\x01\x00\x01\x00\x01\x00\x09\x00\x00\x00\x01\x00\x00\x00\x00\x00\x00\x00\x00\x00\x00\x00\x00",
             2,
             1,
-        )?;
+        );
         refused(
             &rt,
             heap,
@@ -100,7 +94,7 @@ mod tests {
             b"\x01\x00\x00\x01\x00\x01\x00\x01\x00\x01\x00\x09\x00\x01\x00\x01\x00\x00\x00\x00\x00\x00\x00\x00\x00\x00\x00\x00",
             2,
             13,
-        )?;
+        );
         refused(
             &rt,
             heap,
@@ -108,7 +102,7 @@ mod tests {
             b"\x01\x00\x00\x01\x00\x01\x00\x01\x00\x01\x00\x09\x00\x00\x00\x01\x00\x00\x00\x01\x00\x00\x00\x00\x00\x00\x00\x00",
             2,
             16,
-        )?;
+        );
         refused(
             &rt,
             heap,
@@ -116,7 +110,7 @@ mod tests {
             b"\x01\x00\x00\x01\x00\x01\x00\x01\x00\x01\x00\x09\x00\x00\x00\x01\x00\x00\x00\x00\x00\x00\x00\xff\x00\x00\x00\x00",
             2,
             23,
-        )?;
+        );
         refused(
             &rt,
             heap,
@@ -124,7 +118,8 @@ mod tests {
             b"\x01\x00\x00\x01\x00\x01\x00\x01\x00\x01\x00\x09\x00\x00\x00\x01\x00\x00\x00\x00\x00\x00\x00\x00\x80\x00\x00\x00",
             2,
             24,
-        )
+        );
+        Ok(())
     }
 
     #[test]
@@ -137,7 +132,7 @@ mod tests {
             b"\x01\x00\x00\x00\x00\x01\x00\x01\x00\x01\x00\x09\x00\x00\x00\x01\x00\x00\x00\x00\x00\x00\x00\x00\x00\x00\x00\x00",
             3,
             2,
-        )?;
+        );
         refused(
             &rt,
             heap,
@@ -145,7 +140,7 @@ mod tests {
             b"\x01\x00\x00\x21\x00\x01\x00\x01\x00\x01\x00\x09\x00\x00\x00\x01\x00\x00\x00\x00\x00\x00\x00\x00\x00\x00\x00\x00",
             3,
             2,
-        )?;
+        );
         refused(
             &rt,
             heap,
@@ -153,7 +148,7 @@ mod tests {
             b"\x01\x00\x00\x01\x00\x00\x00\x01\x00\x01\x00\x09\x00\x00\x00\x01\x00\x00\x00\x00\x00\x00\x00\x00\x00\x00\x00\x00",
             3,
             4,
-        )?;
+        );
         refused(
             &rt,
             heap,
@@ -161,7 +156,7 @@ mod tests {
             b"\x01\x00\x00\x01\x01\x01\x00\x01\x00\x01\x00\x09\x00\x00\x00\x01\x00\x00\x00\x00\x00\x00\x00\x00\x00\x00\x00\x00",
             3,
             4,
-        )?;
+        );
         refused(
             &rt,
             heap,
@@ -169,7 +164,8 @@ mod tests {
             b"\x01\x00\x00\x01\x00\x01\x08\x01\x00\x01\x00\x09\x00\x00\x00\x01\x00\x00\x00\x00\x00\x00\x00\x00\x00\x00\x00\x00",
             3,
             6,
-        )
+        );
+        Ok(())
     }
 
     #[test]
@@ -182,7 +178,7 @@ mod tests {
             b"\x01\x00\x00\x01\x00\x01\x00\x01\x00\x00\x00\x09\x00\x00\x00\x01\x00\x00\x00\x00\x00\x00\x00\x00\x00\x00\x00\x00",
             4,
             8,
-        )?;
+        );
         refused(
             &rt,
             heap,
@@ -190,7 +186,7 @@ mod tests {
             b"\x01\x00\x00\x01\x00\x01\x00\x01\x01\x00\x00\x09\x00\x00\x00\x01\x00\x00\x00\x00\x00\x00\x00\x00\x00\x00\x00\x00",
             4,
             8,
-        )?;
+        );
         refused(
             &rt,
             heap,
@@ -198,7 +194,8 @@ mod tests {
             b"\x01\x00\x00\x01\x00\x01\x00\x01\x00\x01\x00\x09\x08\x00\x00\x01\x00\x00\x00\x00\x00\x00\x00\x00\x00\x00\x00\x00",
             10,
             0,
-        )
+        );
+        Ok(())
     }
 
     #[test]
@@ -211,7 +208,7 @@ mod tests {
             b"\x01\x00\x00\x01\x00\x01\x00\x01\x00\x01\x00\x09\x00\x00\x00\x02\x00\x00\x00\x00\x00\x00\x00\x00\x00\x00\x00\x00",
             5,
             14,
-        )?;
+        );
         refused(
             &rt,
             heap,
@@ -219,7 +216,7 @@ mod tests {
             b"\x01\x00\x00\x01\x00\x01\x00\x01\x00\x01\x00\x09\x00\x00\x00\x01\x00\x00\x00\x00\x00\x01\x00\x00\x00\x00\x00\x00",
             5,
             20,
-        )?;
+        );
         refused(
             &rt,
             heap,
@@ -227,7 +224,8 @@ mod tests {
             b"\x01\x00\x00\x01\x00\x01\x00\x01\x00\x01\x00\x09\x00\x00\x00\x01\x00\x00\x00\x00\x00\x02\x00\x00\x00\x00\x00\x00",
             5,
             20,
-        )
+        );
+        Ok(())
     }
 
     #[test]
@@ -240,7 +238,7 @@ mod tests {
             b"\x01\x00\x00\x01\x00\x02\x00\x01\x00\x01\x00\x00\x00\x00\x00\x01\x00\x00\x00\x00\x00\x00\x00\x00\x00\x01\x00\x00\x00\x00\x00\x00\x00\x00\x00\x00\x00\x00",
             6,
             1,
-        )?;
+        );
         refused(
             &rt,
             heap,
@@ -248,7 +246,7 @@ mod tests {
             b"\x01\x00\x00\x02\x00\x02\x00\x03\x00\x01\x00\x01\x00\x00\x00\x00\x00\x01\x00\x00\x00\x00\x00\x00\x00\x00\x00\x02\x00\x00\x00\x00\x00\x03\x00\x00\x00\x00\x00\x00\x00\x03\x01\x00\x00\x00\x00\x00\x00\x00\x01\x00\x00\x00\x00\x00",
             6,
             3,
-        )?;
+        );
         refused(
             &rt,
             heap,
@@ -256,7 +254,8 @@ mod tests {
             b"\x01\x00\x00\x01\x00\x01\x00\x02\x00\x01\x00\x00\x00\x00\x00\x01\x00\x00\x00\x00\x00\x00\x00\x00\x00\x00\x00\x00\x00\x00\x00\x00\x00\x00\x00\x00",
             6,
             2,
-        )
+        );
+        Ok(())
     }
 
     #[test]
@@ -269,7 +268,7 @@ mod tests {
             b"\x01\x00\x00\x01\x00\x01\x00\x01\x00\x01\x00\x09\x00\x00\x00\x00\x00\x00\x00\x00\x00\x00\x00\x00\x00\x00\x00\x00",
             7,
             0,
-        )?;
+        );
         refused(
             &rt,
             heap,
@@ -277,7 +276,7 @@ mod tests {
             b"\x01\x00\x00\x09\x00\x01\x00\x09\x00\x01\x00\x01\x00\x01\x00\x01\x00\x01\x00\x01\x00\x01\x00\x01\x00\x01\x00\x00\x00\x00\x00\x01\x00\x00\x00\x00\x00\x02\x00\x00\x00\x00\x00\x00\x00\x03\x01\x00\x00\x00\x00\x00\x00\x04\x02\x00\x00\x00\x00\x00\x00\x05\x03\x00\x00\x00\x00\x00\x00\x06\x04\x00\x00\x00\x00\x00\x00\x07\x05\x00\x00\x00\x00\x00\x00\x08\x06\x00\x00\x00\x00\x00\x00\x09\x07\x00\x00\x00\x00\x00\x00\x00\x08\x00\x00\x00\x00\x00",
             7,
             0,
-        )?;
+        );
         refused(
             &rt,
             heap,
@@ -285,7 +284,7 @@ mod tests {
             b"\x01\x00\x00\x01\x00\x01\x00\x01\x00\x01\x00\x09\x00\x00\x00\x01\x00\x00\x00\x00\x00\x00\x01\x00\x00\x00\x00\x00",
             8,
             0,
-        )?;
+        );
         refused(
             &rt,
             heap,
@@ -293,7 +292,8 @@ mod tests {
             b"\x01\x00\x00\x02\x00\x01\x00\x03\x00\x01\x00\x01\x00\x00\x00\x00\x00\x01\x00\x00\x00\x00\x00\x02\x00\x00\x00\x00\x00\x00\x00\x03\x01\x00\x00\x00\x00\x00\x00\x00\x00\x00\x00\x00\x00\x00",
             9,
             0,
-        )
+        );
+        Ok(())
     }
 
     #[test]
@@ -306,7 +306,7 @@ mod tests {
             b"\x09\x00\x00\x01\x00\x01\x00",
             1,
             7,
-        )?;
+        );
         refused(
             &rt,
             heap,
@@ -314,7 +314,7 @@ mod tests {
             b"\x09\x09\x00\x01\x00\x01\x00\x01\x00\x01\x00\x09\x00\x00\x00\x01\x00\x00\x00\x00\x00\x00\x00\x00\x00\x00\x00\x00",
             2,
             0,
-        )?;
+        );
         refused(
             &rt,
             heap,
@@ -322,7 +322,7 @@ mod tests {
             b"\x01\x09\x00\x00\x00\x01\x00\x01\x00\x01\x00\x09\x00\x00\x00\x01\x00\x00\x00\x00\x00\x00\x00\x00\x00\x00\x00\x00",
             2,
             1,
-        )?;
+        );
         refused(
             &rt,
             heap,
@@ -330,7 +330,7 @@ mod tests {
             b"\x01\x00\x00\x01\x00\x00\x00\x01\x00\x01\x00\x09\x00\x00\x00\x01\x00\x00\x00\x00",
             3,
             4,
-        )?;
+        );
         refused(
             &rt,
             heap,
@@ -338,7 +338,7 @@ mod tests {
             b"\x01\x00\x00\x01\x00\x01\x00\x01\x00\x00\x00\x09\x00\x00\x00\x01\x00\x00\x00\x00\x00\x00\x00\x00\x00\x00\x00",
             1,
             27,
-        )?;
+        );
         refused(
             &rt,
             heap,
@@ -346,7 +346,7 @@ mod tests {
             b"\x01\x00\x00\x01\x00\x01\x00\x01\x00\x00\x00\x09\x08\x00\x00\x01\x00\x00\x00\x00\x00\x00\x00\x00\x00\x00\x00\x00",
             4,
             8,
-        )?;
+        );
         refused(
             &rt,
             heap,
@@ -354,7 +354,7 @@ mod tests {
             b"\x01\x00\x00\x01\x00\x01\x00\x01\x00\x01\x00\x09\x08\x01\x00\x01\x00\x00\x00\x00\x00\x00\x00\x00\x00\x00\x00\x00",
             10,
             0,
-        )?;
+        );
         refused(
             &rt,
             heap,
@@ -362,7 +362,7 @@ mod tests {
             b"\x01\x00\x00\x01\x00\x01\x00\x01\x00\x01\x00\x09\x00\x01\x00\x02\x00\x00\x00\x00\x00\x00\x00\x00\x00\x00\x00\x00",
             2,
             13,
-        )?;
+        );
         refused(
             &rt,
             heap,
@@ -370,7 +370,7 @@ mod tests {
             b"\x01\x00\x00\x01\x00\x01\x00\x01\x00\x01\x00\x09\x00\x00\x00\x02\x00\x00\x00\x01\x00\x00\x00\x00\x00\x00\x00\x00",
             5,
             14,
-        )?;
+        );
         refused(
             &rt,
             heap,
@@ -378,7 +378,7 @@ mod tests {
             b"\x01\x00\x00\x01\x00\x01\x00\x01\x00\x01\x00\x09\x00\x00\x00\x01\x00\x00\x00\x01\x00\x01\x00\x00\x00\x00\x00\x00",
             2,
             16,
-        )?;
+        );
         refused(
             &rt,
             heap,
@@ -386,7 +386,7 @@ mod tests {
             b"\x01\x00\x00\x01\x00\x01\x00\x01\x00\x01\x00\x09\x00\x00\x00\x01\x00\x00\x00\x00\x00\x01\x00\x01\x00\x00\x00\x00",
             5,
             20,
-        )?;
+        );
         refused(
             &rt,
             heap,
@@ -394,7 +394,7 @@ mod tests {
             b"\x01\x00\x00\x01\x00\x02\x00\x01\x00\x01\x00\x00\x00\x00\x00\x01\x00\x00\x00\x00\x00\x00\x00\x00\x00\x01\x00\x00\x00\x00\x00\x00\x00\x00\x00\x00\x00\x01",
             2,
             34,
-        )?;
+        );
         refused(
             &rt,
             heap,
@@ -402,7 +402,7 @@ mod tests {
             b"\x01\x00\x00\x09\x00\x02\x00\x0a\x00\x01\x00\x01\x00\x01\x00\x01\x00\x01\x00\x01\x00\x01\x00\x01\x00\x01\x00\x00\x00\x00\x00\x0a\x00\x00\x00\x00\x00\x00\x00\x00\x00\x01\x00\x00\x00\x00\x00\x02\x00\x00\x00\x00\x00\x00\x00\x03\x01\x00\x00\x00\x00\x00\x00\x04\x02\x00\x00\x00\x00\x00\x00\x05\x03\x00\x00\x00\x00\x00\x00\x06\x04\x00\x00\x00\x00\x00\x00\x07\x05\x00\x00\x00\x00\x00\x00\x08\x06\x00\x00\x00\x00\x00\x00\x09\x07\x00\x00\x00\x00\x00\x00\x0a\x08\x00\x00\x00\x00\x00\x00\x00\x00\x00\x00\x00\x00\x00",
             6,
             10,
-        )?;
+        );
         refused(
             &rt,
             heap,
@@ -410,7 +410,7 @@ mod tests {
             b"\x01\x00\x00\x01\x00\x02\x00\x01\x00\x01\x00\x00\x00\x00\x00\x01\x00\x00\x00\x00\x00\x00\x00\x00\x00\x01\x00\x00\x00\x00\x00\x00\x07\x00\x00\x00\x00\x00",
             8,
             0,
-        )?;
+        );
         refused(
             &rt,
             heap,
@@ -418,7 +418,7 @@ mod tests {
             b"\x01\x00\x00\x09\x00\x01\x00\x09\x00\x01\x00\x01\x00\x01\x00\x01\x00\x01\x00\x01\x00\x01\x00\x01\x00\x01\x00\x00\x00\x00\x00\x01\x00\x00\x00\x00\x00\x02\x63\x00\x00\x00\x00\x00\x00\x03\x01\x00\x00\x00\x00\x00\x00\x04\x02\x00\x00\x00\x00\x00\x00\x05\x03\x00\x00\x00\x00\x00\x00\x06\x04\x00\x00\x00\x00\x00\x00\x07\x05\x00\x00\x00\x00\x00\x00\x08\x06\x00\x00\x00\x00\x00\x00\x09\x07\x00\x00\x00\x00\x00\x00\x00\x08\x00\x00\x00\x00\x00",
             7,
             0,
-        )?;
+        );
         refused(
             &rt,
             heap,
@@ -426,7 +426,7 @@ mod tests {
             b"\x01\x00\x00\x01\x00\x01\x00\x03\x00\x01\x00\x00\x00\x00\x00\x01\x00\x00\x00\x00\x00\x02\x00\x00\x00\x00\x00\x00\x00\x03\x00\x00\x00\x00\x00\x00\x00\x00\x05\x00\x00\x00\x00\x00",
             8,
             0,
-        )?;
+        );
         refused(
             &rt,
             heap,
@@ -434,7 +434,8 @@ mod tests {
             b"\x01\x00\x00\x01\x00\x01\x00\x02\x00\x01\x00\x00\x00\x00\x00\x01\x00\x00\x00\x00\x00\x00\x03\x00\x00\x00\x00\x00\x00\x00\x00\x00\x00\x00\x00\x00",
             8,
             0,
-        )
+        );
+        Ok(())
     }
 
     // Reads a file and writes it again.
@@ -457,24 +458,30 @@ mod tests {
         let mut bytes = SMALLEST;
         bytes[0] = 2;
         assert!(rt; Schedule::read(rt.alloc(), &bytes).is_ok());
-        match Schedule::read_load(rt.alloc(), &bytes) {
-            Ok(_) => Err(Fail::new("it was accepted")),
-            Err(refusal) => {
-                assert_eq!(rt; (refusal.number(), refusal.place()), (2, 0));
-                Ok(())
-            },
-        }
+        assert_eq!(rt;
+            refusal(Schedule::read_load(rt.alloc(), &bytes)),
+            Some((2, 0))
+        );
+        Ok(())
     }
 
     #[test]
     fn a_short_output_stays(rt: HostRuntime) -> Result<(), Fail> {
         let schedule = Schedule::read(rt.alloc(), &SMALLEST)?;
         let mut out = [7u8; 27];
-        match write(&schedule, &mut out) {
-            Ok(_) => return Err(Fail::new("it was accepted")),
-            Err(refusal) => assert_eq!(rt; (refusal.number(), refusal.place()), (22, 0)),
-        }
+        assert_eq!(rt; refusal(write(&schedule, &mut out)), Some((22, 0)));
         assert_eq!(rt; out, [7u8; 27]);
+        Ok(())
+    }
+
+    #[test]
+    fn bytes_are_read_up_to_one_past_the_longest_file(rt: HostRuntime) -> Result<(), Fail> {
+        let whole = read_bytes(rt.alloc(), SMALLEST.as_slice())?;
+        assert_eq!(rt; whole.as_slice(), SMALLEST.as_slice());
+        let long = vec![in rt.alloc(); 7u8; 20_000]?;
+        let front = read_bytes(rt.alloc(), long.as_slice())?;
+        let most = vec![in rt.alloc(); 7u8; 19_017]?;
+        assert_eq!(rt; front.as_slice(), most.as_slice());
         Ok(())
     }
 }

@@ -5,11 +5,13 @@ mod chain;
 mod checked;
 mod head;
 mod image;
+mod input;
 mod marks;
 mod numbers;
 mod order;
 mod raw;
 mod schedule;
 
+pub use input::read_bytes;
 pub use marks::Marks;
 pub use schedule::Schedule;

@@ -6,30 +6,18 @@ use anyhow::anyhow;
 use layout::{file_length, write};
 use listing::listing;
 use refusal::Refusal;
-use schedule::Schedule;
-use std::io::Read;
-use std::{fs, io};
-
-// One byte more than the longest file has: what lies past it does not count.
-const MOST: u64 = 19_017;
-
-fn read_input(rt: &HostRuntime) -> io::Result<Vec<u8>> {
-    let mut bytes = Vec::new(rt.alloc());
-    rt.stdin().take(MOST).read_to_end(&mut bytes)?;
-    Ok(bytes)
-}
+use schedule::{Schedule, read_bytes};
+use std::fs;
 
 fn write_canonical(rt: &HostRuntime, schedule: &Schedule) -> anyhow::Result<()> {
     let mut file = vec![in rt.alloc(); 0u8; file_length(schedule)]?;
-    match write(schedule, &mut file) {
-        Ok(_) => fs::write(rt, "canonical.sch", file.as_slice())?,
-        Err(_) => return Err(anyhow!("the output is too short")),
-    }
+    write(schedule, &mut file).map_err(|_| anyhow!("the output is too short"))?;
+    fs::write(rt, "canonical.sch", file.as_slice())?;
     Ok(())
 }
 
 fn show(rt: &HostRuntime) -> anyhow::Result<()> {
-    let bytes = read_input(rt)?;
+    let bytes = read_bytes(rt.alloc(), rt.stdin())?;
     match Schedule::read(rt.alloc(), bytes.as_slice()) {
         Ok(schedule) => {
             let text = listing(rt.alloc(), &schedule)?;
