@@ -13,15 +13,11 @@ use queues::{Fifo, Lifo};
 use refusal::Refusal;
 use rules::HopRecord;
 use run::Recording;
-use schedule::Schedule;
+use schedule::{Schedule, read_bytes};
 use std::alloc::Global;
-use std::io::Read;
-use std::{fs, io};
+use std::fs;
 use summary::summary;
 use table::Flight;
-
-// One byte more than the longest file has: what lies past it does not count.
-const MOST: u64 = 19_017;
 
 // One more than the last slot of the longest run.
 const CALLS: u32 = 587_521;
@@ -37,12 +33,6 @@ struct Recorded {
     file: Vec<u8>,
     length: usize,
     text: String,
-}
-
-fn read_input(rt: &HostRuntime) -> io::Result<Vec<u8>> {
-    let mut bytes = Vec::new(rt.alloc());
-    rt.stdin().take(MOST).read_to_end(&mut bytes)?;
-    Ok(bytes)
 }
 
 // Records a plan under a queue discipline that holds no cell.
@@ -78,7 +68,7 @@ fn record_load(heap: Global, load: Schedule) -> Result<Recorded, Refusal> {
 }
 
 fn replay(rt: &HostRuntime) -> anyhow::Result<()> {
-    let bytes = read_input(rt)?;
+    let bytes = read_bytes(rt.alloc(), rt.stdin())?;
     let recorded = match Schedule::read_load(rt.alloc(), bytes.as_slice()) {
         Ok(load) => record_load(rt.alloc(), load),
         Err(refusal) => Err(refusal),
