@@ -13,6 +13,7 @@ use layout::{Kind, Pile};
 use plan::Plan;
 
 // At least one port and one cell, and the marks of each cell: slacks and sent slots of 32 bits, all zero in a load.
+// The marks stand beside the cells of the plan and not in them, since the plan is handed out whole.
 #[derive(Drop)]
 pub struct Schedule {
     kind: Kind,

@@ -1,13 +1,11 @@
 // The plan and the marks that a file holds, gathered once all its fields have passed.
-ghost use Rattle.std.specs.Prelude.{◌≡◌, ◌<◌, ◌≤◌, []};
+ghost use Rattle.std.specs.Prelude.{◌≡◌, ◌<◌, ◌≤◌};
 ghost use Rattle.refusal.specs.Tests.{tested};
-ghost use Rattle.plan.specs.Plans.{delays_of, cells_of};
-ghost use Rattle.layout.specs.Fields.{port_count};
 ghost use Rattle.layout.specs.Order.{reached, unreached_test};
 ghost use Rattle.schedule.specs.Chains.{Seen};
-ghost use Rattle.schedule.specs.Gathering.{FieldsTested, Opened, Ported, Gathered, CellGathered, AllGathered};
+ghost use Rattle.schedule.specs.Gathering.{FieldsTested, Opened, GatheredTo, CellGathered, AllGathered};
 
-use crate::checked::Checked;
+use crate::checked::{Checked, Gathering};
 use crate::image::Image;
 use crate::marks::Marks;
 use crate::order::test_each;
@@ -24,36 +22,33 @@ impl<'a> Checked<'a> {
         Ok(Checked { image })
     }
 
-    // A plan with the ports of the file.
-    pub(crate) fn open_plan(&self, heap: Global) -> Result<Plan, Refusal>
-        ensures { Opened self.now.image.bytes.now result }
+    // The ports of the file, and no cell yet.
+    fn open(&self, heap: Global) -> Result<Gathering, Refusal>
+        ensures { Opened self.now.image.bytes.now self.now.image.head.kind result }
     {
         let mut plan = Plan::new(heap);
         for port in 0..self.image.ports() {
             plan.add_port(self.image.delay(port))?;
         }
-        Ok(plan)
+        Ok(Gathering {
+            seen: [false; 2049],
+            plan,
+            marks: Vec::new(heap),
+        })
     }
 
-    // Adds a cell to the plan, with the route that its chain gives, and its marks.
-    fn gather_cell(
-        &self,
-        cell: usize,
-        seen: &mut [bool; 2049],
-        plan: &mut Plan,
-        marks: &mut Vec<Marks>,
-    ) -> Result<(), Refusal>
+    // One cell more: in the plan, with the route that its chain gives, and its marks.
+    fn gather_cell(&self, cell: usize, gathering: &mut Gathering) -> Result<(), Refusal>
         requires known { cell < self.now.image.head.cells }
-        requires seen { Seen seen.old (reached self.now.image.bytes.now cell) }
-        requires gathered { Gathered self.now.image.bytes.now self.now.image.head.kind cell (delays_of plan.old) (cells_of plan.old) marks.old.items }
-        ensures { CellGathered self.now.image.bytes.now self.now.image.head.kind cell result seen.new plan.new marks.new.items }
+        requires gathered { GatheredTo self.now.image.bytes.now self.now.image.head.kind cell gathering.old }
+        ensures { CellGathered self.now.image.bytes.now self.now.image.head.kind cell result gathering.new }
     {
         let raw = self.image.cell(cell);
-        let found = self.walk(cell, seen)?;
-        plan.add_cell(raw.entry, raw.flow, found.ports())?;
+        let found = self.walk(cell, &mut gathering.seen)?;
+        gathering.plan.add_cell(raw.entry, raw.flow, found.ports())?;
         let slack = raw.slack.cast_signed();
         let sent = found.sent();
-        marks.push(Marks { slack, sent })?;
+        gathering.marks.push(Marks { slack, sent })?;
         Ok(())
     }
 
@@ -70,18 +65,16 @@ impl<'a> Checked<'a> {
         }
     }
 
-    // Adds every cell to the plan, and gives their marks.
-    pub(crate) fn gather_cells(&self, heap: Global, plan: &mut Plan) -> Result<Vec<Marks>, Refusal>
-        requires ports { Ported self.now.image.bytes.now (port_count self.now.image.bytes.now) (delays_of plan.old) }
-        requires empty { cells_of plan.old ≡ [] }
-        ensures { AllGathered self.now.image.bytes.now self.now.image.head.kind result plan.new }
+    // All that the file holds, with its chains tested to the end.
+    pub(crate) fn gather(&self, heap: Global) -> Result<Gathering, Refusal>
+        ensures { AllGathered self.now.image.bytes.now self.now.image.head.kind result }
     {
-        let mut marks = Vec::new(heap);
-        let mut seen = [false; 2049];
+        let mut gathering = self.open(heap)?;
         for cell in 0..self.image.cells() {
-            self.gather_cell(cell, &mut seen, plan, &mut marks)?;
+            self.gather_cell(cell, &mut gathering)?;
         }
-        test_each(self.image.hops(), |k| self.test_reached(k + 1, &seen))?;
-        Ok(marks)
+        let seen = &gathering.seen;
+        test_each(self.image.hops(), |k| self.test_reached(k + 1, seen))?;
+        Ok(gathering)
     }
 }

@@ -14,13 +14,12 @@ fn read_kinds(heap: Global, bytes: &[u8], accepts: Accepts) -> Result<Schedule, 
 {
     let image = Image::read(bytes, accepts)?;
     let checked = Checked::new(image)?;
-    let mut plan = checked.open_plan(heap)?;
-    let marks = checked.gather_cells(heap, &mut plan)?;
+    let gathering = checked.gather(heap)?;
     Ok(Schedule {
         kind: image.kind(),
         pile: image.pile(),
-        plan,
-        marks,
+        plan: gathering.plan,
+        marks: gathering.marks,
     })
 }
 

@@ -13,19 +13,19 @@ pub returns-in_err-add_cell : goal.returns-in_err-add_cell
 returns-in_err-add_cell c =
     let p = err_from_is_err_and c.from_residual-in_err-add_cell.result c.from_residual-in_err-add_cell.ensures.1 in
     let bs = c.args.self.now.image.bytes.now in
-    let g = c.requires.gathered in
+    let g = c.requires.gathered.held in
     let w = c.in_ok-found.ensures in
     let known : c.args.cell < cell_count bs = omega arith in
     let few : c.args.cell < 256 = omega arith in
     let h = c.in_err-add_cell.ensures in
     rw (p.1, p.2)
-    (gather_stops bs c.args.self.now.passed c.args.cell known few (delays_of c.args.plan.now) (cells_of c.args.plan.now) _ _ _
+    (gather_stops bs c.args.self.now.passed c.args.cell known few (delays_of c.args.gathering.now.plan) (cells_of c.args.gathering.now.plan) _ _ _
     g.ports.count g.cells (ap (λ r. r.flow) c.cell-raw.ensures) c.ports.ensures w.0 w.1 _ h.0)
 
 pub returns : goal.returns
 returns c =
     let bs = c.args.self.now.image.bytes.now in
-    let g = c.requires.gathered in
+    let g = c.requires.gathered.held in
     let w = c.in_ok-found.ensures in
     let limits = c.args.self.now.image.limits in
     let cells_are = c.args.self.now.image.cells_read in
@@ -39,13 +39,15 @@ returns c =
     let m : Marks = record { slack = to_z w32 (of_z w32 c.cast_signed-slack.result); sent = c.sent-sent.result } in
     let slack-is : m.slack ≡ slack_at bs c.args.cell = same ∙ c.cast_signed-slack.ensures ∙ ap (λ r. to_z w32 r.slack) raw in
     let fits : SFits w32 m.slack = subst (SFits w32) (sym same) small in
-    let passes = gather_passes bs c.args.self.now.passed c.args.cell known few (delays_of c.args.plan.now) (cells_of c.args.plan.now) _ _ _
+    let passes = gather_passes bs c.args.self.now.passed c.args.cell known few (delays_of c.args.gathering.now.plan) (cells_of c.args.gathering.now.plan) _ _ _
     g.ports.count g.cells (ap (λ r. r.flow) raw) c.ports.ensures w.0 w.1 h.0 in
-    let done = gather_done bs c.args.self.now.passed c.args.cell known few (delays_of c.args.plan.now) (cells_of c.args.plan.now) _ _ _
+    let done = gather_done bs c.args.self.now.passed c.args.cell known few (delays_of c.args.gathering.now.plan) (cells_of c.args.gathering.now.plan) _ _ _
     g.ports.count g.cells (ap (λ r. r.flow) raw) c.ports.ensures w.0 w.1 h.0
     c.args.self.now.image.head.kind _ _ m c.args.self.now.image.kind_read (ap (λ r. r.entry) raw) slack-is c.sent-sent.ensures fits g in (
       passes,
-      subst (λ n. Seen c.walk.new.seen (reached bs n)) (sym (add-one c.args.cell)) w.2,
-      w.3,
-      gathered_as bs c.args.self.now.image.head.kind (c.args.cell + 1) h.2.delays h.2.cells c.in_ok-push.ensures.items done,
+      record {
+        long = w.3;
+        seen = subst (λ n. Seen c.walk.new.seen (reached bs n)) (sym (add-one c.args.cell)) w.2;
+        held = gathered_as bs c.args.self.now.image.head.kind (c.args.cell + 1) h.2.delays h.2.cells c.in_ok-push.ensures.items done;
+      },
     )

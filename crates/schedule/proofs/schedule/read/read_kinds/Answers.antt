@@ -1,9 +1,9 @@
-use Rattle.std.proofs.Common.{◌≡◌, ℕ, List, Some, None, sym, ap, ◌∙◌, subst, inr, arith}
+use Rattle.std.proofs.Common.{◌≡◌, ℕ, List, Some, None, sym, ap, ◌∙◌, subst, inr}
 use Rattle.std.proofs.lemmas.Result.{err_from_is_err_and}
 use Rattle.refusal.proofs.Ordered.{or_else_after}
 use Rattle.plan.specs.Cells.{Planned}
 use Rattle.layout.specs.Contents.{kind_number, pile_number}
-use Rattle.layout.specs.Fields.{kind_at, pile_at, port_count, cell_count}
+use Rattle.layout.specs.Fields.{kind_at, pile_at, cell_count}
 use Rattle.layout.specs.declared.kind.Kind.{Kind}
 use Rattle.schedule.specs.Gathering.{Gathered, Stops}
 use Rattle.schedule.specs.declared.marks.Marks.{Marks}
@@ -33,33 +33,15 @@ returns-in_err-checked c =
     let failed : field_tests c.args.bytes.now ≡ Some e = subst (λ b. field_tests b ≡ Some e) image.1 c.in_err-checked.ensures in
     rw (p.1, p.2) (stops_later _ _ _ image.0 (stops_at_once _ _ _ (inr failed)))
 
-pub returns-in_err-marks : goal.returns-in_err-marks
+pub returns-in_err-gathering : goal.returns-in_err-gathering
 unfolding first_refusal
-returns-in_err-marks c =
-    let p = err_from_is_err_and c.from_residual-in_err-marks.result c.from_residual-in_err-marks.ensures.1 in
+returns-in_err-gathering c =
+    let p = err_from_is_err_and c.from_residual-in_err-gathering.result c.from_residual-in_err-gathering.ensures.1 in
     let image = c.in_ok-image.ensures in
     let same = ap (λ i. i.bytes.now) c.in_ok-checked.ensures ∙ image.1 in
     let passed : field_tests c.args.bytes.now ≡ None = subst (λ b. field_tests b ≡ None) same c.in_ok-checked.checked.passed in
     rw (p.1, p.2) (stops_later _ _ _ image.0 (stops_later _ _ _ passed
-    (subst (λ b. Stops (chain_tests b) c.in_err-marks.field-0.0) same c.in_err-marks.ensures)))
-
-pub invariant_of-result : goal.invariant_of-result
-invariant_of-result c =
-    let image = c.in_ok-image.image in
-    let marks = c.in_ok-marks.marks in
-    let same = ap (λ i. i.bytes.now) c.in_ok-checked.ensures ∙ c.in_ok-image.ensures.1 in
-    let g = renamed same (ap (λ i. i.head.kind) c.in_ok-checked.ensures ∙ sym c.kind.ensures) c.in_ok-marks.ensures.1 in
-    let a = g.ports.count in
-    let b = g.cells in
-    let some = image.some in
-    let ports_are = image.ports_read ∙ ap port_count c.in_ok-image.ensures.1 in
-    let cells_are = image.cells_read ∙ ap cell_count c.in_ok-image.ensures.1 in
-    record {
-      some_ports = omega arith;
-      some_cells = omega arith;
-      each_marked = marks.ok.0 ∙ g.marks ∙ sym g.cells;
-      marks_fit = λ i l. g.marked i (omega arith);
-    }
+    (subst (λ b. Stops (chain_tests b) c.in_err-gathering.field-0.0) same c.in_err-gathering.ensures)))
 
 pub returns : goal.returns
 unfolding first_refusal
@@ -68,8 +50,8 @@ returns c =
     let bytes = c.in_ok-image.ensures.1 in
     let same = ap (λ i. i.bytes.now) c.in_ok-checked.ensures ∙ bytes in
     let passed : field_tests c.args.bytes.now ≡ None = subst (λ b. field_tests b ≡ None) same c.in_ok-checked.checked.passed in
-    let chains : chain_tests c.args.bytes.now ≡ None = subst (λ b. chain_tests b ≡ None) same c.in_ok-marks.ensures.0 in
-    let g = renamed same (ap (λ i. i.head.kind) c.in_ok-checked.ensures ∙ sym c.kind.ensures) c.in_ok-marks.ensures.1 in (
+    let chains : chain_tests c.args.bytes.now ≡ None = subst (λ b. chain_tests b ≡ None) same c.in_ok-gathering.ensures.0 in
+    let g = renamed same (ap (λ i. i.head.kind) c.in_ok-checked.ensures ∙ sym c.kind.ensures) c.in_ok-gathering.ensures.1 in (
       or_else_after _ _ c.in_ok-image.ensures.0 ∙ or_else_after _ _ passed ∙ chains,
       held_whole _ _ _ _ _ _ (ap kind_number c.kind.ensures ∙ image.kind_read ∙ ap kind_at bytes) (ap pile_number c.pile.ensures ∙ image.pile_read ∙ ap pile_at bytes) g,
     )

@@ -1,12 +1,13 @@
-use Rattle.std.proofs.Common.{◌≡◌, ◌+◌, ◌<◌, length, sym, ap, ◌∙◌, subst, arith}
+use Rattle.std.proofs.Common.{false, refl, ◌≡◌, ◌+◌, ◌<◌, length, sym, ap, ◌∙◌, subst, arith}
+use Rattle.std.proofs.lemmas.List.{get_or-replicate}
 use Rattle.std.proofs.lemmas.Result.{err_from_is_err_and}
 use Rattle.refusal.proofs.Ordered.{refuses_none}
 use Rattle.plan.specs.Plans.{delays_of}
 use Rattle.layout.specs.Fields.{port_count}
 use Rattle.schedule.specs.Gathering.{Ported}
 use Rattle.schedule.proofs.Fielded.{delay_fits}
-use Rattle.schedule.proofs.Gathered.{port_passes, ported_more}
-use Rattle.schedule.proofs.checked.Checked.open_plan.Goals as goal
+use Rattle.schedule.proofs.Gathered.{port_passes, ported_more, gathered_none}
+use Rattle.schedule.proofs.checked.Checked.open.Goals as goal
 
 pub loop-port-init : goal.loop-port-init
 loop-port-init c =
@@ -38,4 +39,8 @@ pub returns : goal.returns
 returns c =
     let bs = c.args.self.now.image.bytes.now in
     let e : c.loop-port.port ≡ port_count bs = omega arith in
-    (subst (λ n. Ported bs n (delays_of c.loop-port.plan)) e c.loop-port.invariant.0, c.loop-port.invariant.1)
+    record {
+      long = refl;
+      seen = λ j l. get_or-replicate 2049 j false false l;
+      held = gathered_none _ _ _ _ _ (subst (λ n. Ported bs n (delays_of c.loop-port.plan)) e c.loop-port.invariant.0) c.loop-port.invariant.1 c.new.ensures.items;
+    }
