@@ -31,21 +31,18 @@ hops_done x k = flat_map hop_bytes (hop_records 1 (take k x.cells))
 abbrev pub route_done : ℕ → List Hop → ℕ → List ℕ
 route_done i hs j = flat_map hop_bytes (take j (route_records i hs))
 
--- the ports: one more, and all
+-- the ports: one more
 pub ports_more : (x : Content) (out : List ℕ) (p : ℕ) {now after bs : List ℕ} {n : ℕ} → p < length x.delays → cells_start x ≤ length out → now ≡ placed out 8 (ports_done x p) → after ≡ placed now n bs → n ≡ file_length p 0 0 → bs ≡ word_bytes (get_or x.delays p 0) → after ≡ placed out 8 (ports_done x (p + 1))
 ports_more x out p l room before put at is =
     let long = length-take-le p x.delays (omega arith) in
     placed_more word_bytes 2 (λ _. refl) out 8 (take p x.delays) (get_or x.delays p 0) before put is
     (take_more x.delays p 0 l) (omega arith) (omega arith)
 
-pub ports_all : (x : Content) (out : List ℕ) (p : ℕ) {now : List ℕ} → length x.delays ≤ p → now ≡ placed out 8 (ports_done x p) → now ≡ placed out 8 (flat_map word_bytes x.delays)
-ports_all x out p l e = rw take_all at e
-
 -- the hops of one more cell are counted
 pub total_more : (cs : List Scheduled) (k : ℕ) → k < length cs → total_hops (take (k + 1) cs) ≡ total_hops (take k cs) + length (get_or cs k no_scheduled).hops
 total_more cs k l = rw add-one (before_more cs k l)
 
--- the cells: one more, and all
+-- the cells: one more
 pub cells_more : (x : Content) (out : List ℕ) (k : ℕ) (f : CellFields) {now after bs : List ℕ} {n first : ℕ} → k < length x.cells → hop_start x 0 ≤ length out → now ≡ placed out (cells_start x) (cells_done x k) → after ≡ placed now n bs → n ≡ file_length (length x.delays) k 0 → first ≡ 1 + total_hops (take k x.cells) → TellsCell f (get_or x.cells k no_scheduled) → bs ≡ cell_bytes (record { entry = f.entry; flow = f.flow; first = first; slack = f.slack }) → after ≡ placed out (cells_start x) (cells_done x (k + 1))
 cells_more x out k f l room before put at from tells is =
     let front = take k x.cells in
@@ -55,9 +52,6 @@ cells_more x out k f l room before put at from tells is =
     placed_more cell_bytes 10 (λ _. refl) out (cells_start x) (cell_records 1 front) (cell_record (1 + total_hops front) cell) before put
     (is ∙ ap cell_bytes (told_cell f cell tells from))
     (ap (cell_records 1) (take_more x.cells k no_scheduled l) ∙ cell_records_push 1 front cell) (omega arith) (omega arith)
-
-pub cells_all : (x : Content) (out : List ℕ) (k : ℕ) {now : List ℕ} → length x.cells ≤ k → now ≡ placed out (cells_start x) (cells_done x k) → now ≡ placed out (cells_start x) (flat_map cell_bytes (cell_records 1 x.cells))
-cells_all x out k l e = rw take_all at e
 
 -- the hops of a route: one more, and all
 pub route_more : (hs : List Hop) (out : List ℕ) (i at j : ℕ) (f : HopFields) {now after bs : List ℕ} {n next : ℕ} → j < length hs → at + 8 * length hs ≤ length out → now ≡ placed out at (route_done i hs j) → after ≡ placed now n bs → n ≡ at + 8 * j → next ≡ cond (ltb (j + 1) (length hs)) (i + j + 1) 0 → TellsHop f (get_or hs j no_hop) → bs ≡ hop_bytes (record { next = next; port = f.port; sent = f.sent }) → after ≡ placed out at (route_done i hs (j + 1))
@@ -76,7 +70,7 @@ route_all hs out i at j l e =
     let long : length (route_records i hs) ≤ j = omega arith in
     rw take_all at e
 
--- the hops of all cells: one more cell, and all
+-- the hops of all cells: one more cell
 hops_done_more : (x : Content) (k : ℕ) → k < length x.cells → hops_done x (k + 1) ≡ hops_done x k ++ flat_map hop_bytes (route_records (1 + total_hops (take k x.cells)) (hops_of x k))
 hops_done_more x k l =
     let front = take k x.cells in
@@ -91,9 +85,6 @@ hops_more x out k before l room was put from =
     let as_long = length_hop_records 1 front in
     rw (put, was, from, hops_done_more x k l)
     (placed_twice out (hop_start x 0) (hop_start x (total_hops front)) (hops_done x k) (flat_map hop_bytes (route_records (1 + total_hops front) (hops_of x k))) (omega arith) room)
-
-pub hops_all : (x : Content) (out : List ℕ) (k : ℕ) {now : List ℕ} → length x.cells ≤ k → now ≡ placed out (hop_start x 0) (hops_done x k) → now ≡ placed out (hop_start x 0) (flat_map hop_bytes (hop_records 1 x.cells))
-hops_all x out k l e = rw take_all at e
 
 -- the head, the ports, the cells and the hops are the file
 pub all_written : (x : Content) (out : List ℕ) {one two three four : List ℕ} → canonical_length x ≤ length out → one ≡ placed out 0 (head_bytes x) → two ≡ placed one 8 (flat_map word_bytes x.delays) → three ≡ placed two (cells_start x) (flat_map cell_bytes (cell_records 1 x.cells)) → four ≡ placed three (hop_start x 0) (flat_map hop_bytes (hop_records 1 x.cells)) → four ≡ canonical x ++ drop (canonical_length x) out
