@@ -71,7 +71,7 @@ impl<D: Discipline> Ageing<D> {
     fn oldest(&self, port: usize, slot: u32) -> Option<usize>
         ensures { D.Discipline.sound self.now.below → Noted self.now.slots (D.Discipline.waiting self.now.below) → result ≡ oldest_below (D.Discipline.waiting self.now.below) self.now.age port slot 256 }
     {
-        // a loop, since over `filter` and `min_by_key` no proof was found: `is_old` tells only where the layer below is sound
+        // A loop: over `filter` and `min_by_key` no proof was found, since `is_old` tells only of sound disciplines.
         let mut best = None;
         for cell in 0..256 {
             if self.is_old(port, cell, slot) {

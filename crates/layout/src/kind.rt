@@ -1,4 +1,5 @@
-// What kind of schedule a file holds, and the queue discipline that it names: enums, the bytes that stand for them, and the words for them.
+// What kind of schedule a file holds, and the queue discipline that it names: enums, with the bytes that stand for them
+// and the words for them.
 ghost use Rattle.std.specs.Prelude.{◌≡◌, Some};
 ghost use Rattle.layout.specs.Contents.{kind_number, pile_number};
 ghost use Rattle.layout.specs.Decoding.{Decodes};

@@ -22,10 +22,8 @@ use table::Flight;
 // One more than the last slot of the longest run.
 const CALLS: u32 = 587_521;
 
-// What a run is handed, for the largest plan, and what is written of it.
-const CELLS: usize = 256;
-
-const HOPS: usize = 2_048;
+// How long the file of the largest recording is.
+const LONGEST_FILE: usize = 19_016;
 
 // A recording as it is given out: its file, and its text.
 #[derive(Drop)]
@@ -41,9 +39,9 @@ fn record<D: Discipline>(
     pile: Pile,
     queue: &mut D,
 ) -> Result<Recorded, Refusal> {
-    let mut flights = vec![in heap; Flight::default(); CELLS]?;
-    let mut log = vec![in heap; HopRecord::default(); HOPS]?;
-    let mut file = vec![in heap; 0u8; 19_016]?;
+    let mut flights = vec![in heap; Flight::default(); plan.cells()]?;
+    let mut log = vec![in heap; HopRecord::default(); plan.hops()]?;
+    let mut file = vec![in heap; 0u8; LONGEST_FILE]?;
     Recording::test_seal(&plan, &flights, &log, queue)?;
     let mut recording = Recording::seal(plan, pile, &mut flights, &mut log, queue);
     recording.slots(CALLS, &mut flights, &mut log, queue);
