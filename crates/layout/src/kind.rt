@@ -26,7 +26,7 @@ pub enum Pile {
     Aged,
 }
 
-// Which kinds a caller of the reader takes.
+// Which kinds a caller of the reader takes: an enum and no closure, since these are all that a caller can want.
 #[derive(Clone, Copy, PartialEq, Eq, Debug)]
 pub enum Accepts {
     AnyKind,

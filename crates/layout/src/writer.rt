@@ -1,4 +1,5 @@
-// The writer of canonical schedule files.
+// The writer of canonical schedule files. What is read and what is written go side by side through its functions, as in
+// `write!`: a struct of both would only be taken apart in each.
 ghost use Rattle.std.specs.Prelude.{◌≡◌, ◌+◌, ◌<◌, ◌≤◌, length, if◌then◌else◌, nat_lt};
 ghost use Rattle.std.specs.List.{flat_map};
 ghost use Rattle.layout.specs.Canonical.{word_bytes, cell_bytes, hop_bytes, cell_records, route_records, hop_records, head_bytes, canonical_length};

@@ -1,4 +1,5 @@
-// The content of a schedule file as text for a person.
+// The content of a schedule file as text for a person. The text and what it tells of go side by side, as in `write!`: a
+// struct of both would only be taken apart in each function.
 #![tactic(auto)]
 
 mod cell;

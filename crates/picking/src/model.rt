@@ -93,10 +93,12 @@ impl Random {
         if n == 0 {
             0
         } else {
+            // there is no `From<u32>` for `usize`
             ((self.state >> 16) % n) as usize
         }
     }
 
+    // The mask leaves three bits, so the cast loses nothing.
     pub(crate) fn flow(&mut self) -> u8 {
         (self.below(8) & 7) as u8
     }

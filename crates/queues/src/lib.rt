@@ -25,7 +25,7 @@ mod tests {
         d.arrive(1, 4, 0, 11, 15)
     }
 
-    // The number of the refusal.
+    // The number of the refusal. Other tests have this line too: a crate for it would be longer.
     fn number<T: Drop>(answer: Result<T, Refusal>) -> Option<u8> {
         answer.err().map(|refusal| refusal.number())
     }

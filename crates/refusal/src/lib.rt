@@ -152,6 +152,7 @@ impl Refusal {
     }
 }
 
+// Conversions by hand: contracts name the refusal that `?` makes, and a derived conversion would have none.
 impl From<AllocError> for Refusal {
     ghost from_gives = { λ _ r. r ≡ NoMemory };
 

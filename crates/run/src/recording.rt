@@ -16,7 +16,7 @@ use rules::CellRecord;
 
 // The plan, the queue discipline that a file of it names, a record for each cell, and which ports were contested.
 // `next` is the slot that is performed next, `gone` how many cells have left, and `flying` how many places of the
-// flights, which are lent to each call, are in use.
+// flights, which are lent to each call, are in use. Marks of ports are an array, since nothing is allocated in a run.
 #[derive(Drop)]
 pub struct Recording {
     plan: Plan,
