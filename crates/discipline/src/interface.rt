@@ -24,7 +24,7 @@ pub trait Discipline {
 
     ghost withdraws: { Self → ℕ → ℕ → Self → Type 0 };
 
-    // A cell comes to wait at a port. The numbers come one by one: so the callers of the interface hand them over.
+    // A cell comes to wait at a port. Five numbers and no struct, since the interface is fixed so (docs/RULES.md).
     fn arrive(
         &mut self,
         port: usize,

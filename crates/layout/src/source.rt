@@ -7,7 +7,7 @@ use crate::fields::{CellFields, HopFields};
 use crate::kind::{Kind, Pile};
 
 // Past the last port, cell or hop a field reads as zero.
-// Ports, cells and hops are asked for by their numbers, since a method of a trait cannot hand out an iterator of its own.
+// Ports, cells and hops are asked for by number, since a method of a trait cannot hand out an iterator of its own.
 pub trait Source {
     ghost content: { Self → Content };
 

@@ -56,7 +56,7 @@ fn put(out: &mut [u8], at: usize, bytes: &[u8])
 fn head<S: Source>(s: &S) -> [u8; 8]
     ensures { result ≡ head_bytes (S.content s.now) }
 {
-    // By `as`, which is proved to lose nothing: a `u16::try_from` would ask for an answer to an error that never comes.
+    // By `as`, which is proved to lose nothing, and is shorter than a `try_from` whose error never comes.
     let [p0, p1] = (s.ports() as u16).to_be_bytes();
     let [c0, c1] = (s.cells() as u16).to_be_bytes();
     let [h0, h1] = (s.hops() as u16).to_be_bytes();

@@ -25,6 +25,7 @@ pub fn outcome(
 ) -> Result<CellOutcome, Refusal>
     ensures { result ≡ told (outcome_test recording.now log.now cell) (outcome_of recording.now log.now cell) }
 {
+    // an unknown cell is refused between the two tests of `Ended::new`
     if !recording.ended() {
         return Err(Refusal::RunNotEnded);
     }

@@ -24,7 +24,8 @@ mod tests {
         Ok(plan)
     }
 
-    // The number and the place of a refusal, if the call was refused.
+    // The number and the place of a refusal, if the call was refused. Other tests have
+    // this line too: a crate for it would be longer.
     fn refused(answer: Result<usize, Refusal>) -> Option<(u8, usize)> {
         answer
             .err()

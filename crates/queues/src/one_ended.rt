@@ -75,6 +75,9 @@ impl<E: End> Discipline for OneEnded<E> {
 
     fn pick(&mut self, port: usize, _slot: u32) -> Result<usize, Refusal> {
         test_port(port)?;
+        if self.line.count(port) == Ok(0) {
+            return Err(Refusal::NoneWaits);
+        }
         let Some(at) = E::place(self.line.waiting(), port) else {
             return Err(Refusal::NoneWaits);
         };

@@ -147,6 +147,7 @@ impl Refusal {
             | Refusal::PortTwice(p)
             | Refusal::BadFlow(p)
             | Refusal::PlanFull(p) => *p,
+            // a case without a place tells 0, as the table of refusals has it
             _ => 0,
         }
     }

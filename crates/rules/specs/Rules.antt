@@ -8,7 +8,7 @@ use Rattle.rules.specs.declared.condition.Condition.TheVariants.{Waiting}
 use Rattle.rules.specs.declared.condition.Event.{Event}
 use Rattle.rules.specs.declared.condition.Event.TheVariants.{Arrive, SentOnward, SentOut}
 
--- whether position h is the last of cell c
+-- whether the route of cell c goes on behind position h
 abbrev pub goes_on : Network → ℕ → ℕ → Bool
 goes_on N c h = nat_lt (h + 1) (N.len c)
 

@@ -36,7 +36,7 @@ Stands r c (Some s) =
     × (s.place ≡ first_hop (cells_of r.plan) c + s.position)
 Stands r c None = (h a : ℕ) → Hop (network_of r) c h → (slice_index_or r.records.items c no_record).condition ≢ Waits h a
 
--- where a cell goes that is sent in slot t by a port with this delay
+-- what happens to a cell that is sent in slot t by a port with this delay
 abbrev pub leaving : Standing → ℕ → ℕ → Event
 leaving s t delay = cond s.goes_on (SentOnward (s.position + 1) (t + delay)) SentOut
 

@@ -65,7 +65,7 @@ impl Head {
         let cells = usize::from(word_at(bytes, 4));
         let hops = usize::from(word_at(bytes, 6));
         test_counts(ports, cells, hops)?;
-        // said here too, since the writer's own function takes only counts that have passed their tests
+        // the limits and the length are said here too, since the writer's functions take only counts that have passed them
         if bytes.len() != 8 + 2 * ports + 10 * cells + 8 * hops {
             return Err(Refusal::WrongLength(bytes.len()));
         }

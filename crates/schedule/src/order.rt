@@ -13,6 +13,7 @@ pub(crate) fn test_each<F: Fn(usize) -> Result<(), Refusal>>(
     requires { (k : ℕ) → k < n → F.pre test k }
     ensures { (tests : ℕ → Option Refusal) → ((k : ℕ) (r : _) → k < n → F.post test k r → r ≡ tested (tests k)) → result ≡ tested (each_below n tests) }
 {
+    // a loop: over `try_for_each` no proof was found that the test may be called
     for k in 0..n {
         test(k)?;
     }

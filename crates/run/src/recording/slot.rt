@@ -46,7 +46,7 @@ fn note(log: &mut [HopRecord], place: usize, slot: u32)
     }
 }
 
-// The flights, the log and the discipline are lent to each call: handed on one by one, they show what a part may change.
+// Flights, log and discipline are lent to each call: handed on one by one, they show what a part may change.
 impl Recording {
     // A cell enters or lands: it waits from now on, and the queue discipline is told.
     fn enter<D: Discipline>(&mut self, cell: usize, queue: &mut D)

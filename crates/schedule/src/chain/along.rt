@@ -9,7 +9,8 @@ use crate::checked::Checked;
 use arrayvec::ArrayVec;
 use refusal::Refusal;
 
-// Writes a slot at a place, where there is such a place.
+// Writes a slot at a place, where there is such a place. By an index, since what is written behind `get_mut` is lost to the
+// proof.
 fn keep(places: &mut [u32], at: usize, slot: u32)
     ensures { places.new ≡ slice_set places.old at slot }
 {

@@ -1,4 +1,4 @@
-// The records of a file, and the tests of their fields.
+// The tests of a file's head, and the records of the file.
 ghost use Rattle.std.specs.Prelude.{◌≡◌, ◌+◌, ◌<◌, ◌≤◌, ◌==◌};
 ghost use Rattle.layout.specs.Fields.{kind_at, port_offset, delay_at, cell_offset, hop_offset};
 ghost use Rattle.schedule.specs.Images.{ImageRead, raw_cell, raw_hop};

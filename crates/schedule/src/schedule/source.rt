@@ -23,7 +23,7 @@ impl Source for Schedule {
     }
 
     fn delay(&self, port: usize) -> u8 {
-        self.plan.delay(port).unwrap_or(0)
+        self.plan.delay(port).unwrap_or_default()
     }
 
     fn cells(&self) -> usize {

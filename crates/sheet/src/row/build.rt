@@ -11,7 +11,7 @@ use arrayvec::ArrayVec;
 use layout::{CellFields, HopFields};
 use plan::Cell;
 
-// The row of no cell.
+// The row of no cell: by hand, since a type with a ghost field derives no default.
 impl Default for Row {
     ghost is_default = { λ row. scheduled row ≡ no_scheduled };
 

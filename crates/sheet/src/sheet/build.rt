@@ -12,19 +12,7 @@ use layout::Pile;
 use plan::{Cell, Plan};
 use refusal::Refusal;
 
-// The delays, as the sheet keeps them.
-fn kept(delays: &[u8]) -> ArrayVec<u8, 32>
-    requires { length delays.now ≤ 32 }
-    ensures { result.items ≡ delays.now }
-{
-    let mut kept = ArrayVec::new();
-    for delay in delays {
-        kept.push(*delay);
-    }
-    kept
-}
-
-// The rows of the cells: each with its slack, and with its part of the slots, which stand cell by cell along each route.
+// The rows of the cells: each with its slack and its part of the slots, which stand cell by cell along each route.
 fn rows_of(cells: &[Cell], slacks: &[i32], slots: &[u32]) -> ArrayVec<Row, 256>
     requires cells_len_bound { (length cells.now ≤ 256) × (length cells.now ≤ length slacks.now) }
     requires cells_in_bounds { hops_in (map planned cells.now) ≤ length slots.now }
@@ -64,7 +52,7 @@ impl Sheet {
         Ok(Sheet {
             run,
             pile,
-            delays: kept(plan.delays()),
+            delays: ArrayVec::try_from(plan.delays()).unwrap(),
             rows: rows_of(plan.all_cells(), slacks, slots),
             hops,
         })

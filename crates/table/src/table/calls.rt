@@ -10,7 +10,8 @@ use crate::order::Ordered;
 use crate::table::Table;
 use refusal::Refusal;
 
-// Places are sought from the front: lent memory that was altered may be out of order, and what is told of it is pinned too.
+// Places are sought from the front, each by its own test: lent memory that was altered may be out of order, and what is told
+// of it is pinned too.
 impl<'a, E: Ordered + Copy> Table<'a, E> {
     // The place of the first element that is after `e`.
     fn place_after(&self, e: &E) -> Option<usize>
