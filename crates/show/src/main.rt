@@ -18,6 +18,7 @@ fn write_canonical(rt: &HostRuntime, schedule: &Schedule) -> anyhow::Result<()> 
 
 fn show(rt: &HostRuntime) -> anyhow::Result<()> {
     let bytes = read_bytes(rt.alloc(), rt.stdin())?;
+    // `replay` has the same two arms for a refusal: a library for them would have to know what a program prints
     match Schedule::read(rt.alloc(), bytes.as_slice()) {
         Ok(schedule) => {
             let text = listing(rt.alloc(), &schedule)?;
