@@ -1,8 +1,7 @@
 -- What a plan keeps when it grows.
-use Rattle.std.proofs.Common.{◌≡◌, ℕ, ◌<◌, ◌≤◌, Bool, true, false, cond, List, [], ◌∷◌, ◌++◌, map, length, get_or, refl, inl, inr, arith}
+use Rattle.std.proofs.Common.{◌≡◌, ℕ, ◌<◌, Bool, true, false, cond, List, [], ◌∷◌, ◌++◌, map, length, get_or, refl, inl, inr, arith}
 use Rattle.std.proofs.lemmas.List.{length_push, get_or_push, get_or_append_left, map_push}
 use Rattle.std.proofs.lemmas.Bool.{cases_lt}
-use Rattle.plan.specs.Cells.{Planned, Cells}
 
 -- what holds of each element holds of each where one more is pushed, or none
 pub each_pushed : {X : Type 0} (P : X → Type 0) (d : X) (xs : List X) (x : X) (b : Bool) → ((k : ℕ) → k < length xs → P (get_or xs k d)) → P x → (k : ℕ) → k < length (cond b (xs ++ x ∷ []) xs) → P (get_or (cond b (xs ++ x ∷ []) xs) k d)
@@ -16,10 +15,3 @@ each_pushed P d xs x true h p k l =
 pub map_pushed : {X Y : Type 0} (f : X → Y) (xs : List X) (x : X) (b : Bool) → map f (cond b (xs ++ x ∷ []) xs) ≡ cond b (map f xs ++ f x ∷ []) (map f xs)
 map_pushed f xs x true = map_push f xs x
 map_pushed f xs x false = refl
-
--- a route over some ports is one over more
-pub cells_wider : (m n : ℕ) (cs : List Planned) → m ≤ n → Cells m cs → Cells n cs
-cells_wider m n cs le h k l =
-    let f = h k l in
-    let r = f.2 in
-    (f.0, f.1, (r.0, r.1, (λ i u. omega (arith, r.2 i u)), r.3))
