@@ -1,5 +1,5 @@
 -- How many numbers pass a test, and how many cells wait at a port.
-use Rattle.std.proofs.Common.{◌≡◌, ℕ, zero, suc, ◌+◌, ◌<◌, ◌≤◌, Bool, true, false, cond, Some, None, Option, sym, refl, ap, ◌∙◌, inl, inr, arith}
+use Rattle.std.proofs.Common.{◌≡◌, ℕ, zero, suc, ◌+◌, ◌<◌, ◌≤◌, Bool, true, false, cond, ◌⊎◌, Some, None, Option, sym, refl, ap, ◌∙◌, inl, inr, arith}
 use Rattle.std.proofs.lemmas.Bool.{cases_eq, cases_Bool, eq-eqb, ne_eqb, false≢true}
 use Rattle.discipline.specs.Meaning.{Waiting, stays_at, waits_at, At, passing, count_at, Limits, Same, with_cell, without_cell, Empty}
 use Rattle.discipline.specs.declared.stay.Stay.{Stay}
@@ -60,6 +60,52 @@ passing_find (suc n) f h =
           (r.0, (let b = r.1 in omega arith), r.2))
     ]
 
+-- none of the numbers passes
+pub passing_zero : (n : ℕ) (f : ℕ → Bool) → ((k : ℕ) → k < n → f k ≡ false) → passing n f ≡ 0
+passing_zero n f h =
+    elim (cases_eq (passing n f) 0) [
+      | inl z ↦ z
+      | inr z ↦ (let r = passing_find n f (omega arith) in absurd (false≢true (sym (h r.0 r.1) ∙ r.2)))
+    ]
+
+-- where as many pass as there are, all pass
+pub passing_all : (n : ℕ) (f : ℕ → Bool) → n ≤ passing n f → (k : ℕ) → k < n → f k ≡ true
+passing_all zero f h k l = absurd (omega arith)
+passing_all (suc n) f h k l =
+    let few = passing_few n f in
+    elim (cases_Bool (f n)) [
+      | inl y ↦
+          (let e = passing_yes n f y in
+          elim (cases_eq k n) [ inl q ↦ ap f q ∙ y | inr q ↦ passing_all n f (omega arith) k (omega arith) ])
+      | inr y ↦ (let e = passing_no n f y in absurd (omega arith))
+    ]
+
+pub all_passing : (n : ℕ) (f : ℕ → Bool) → ((k : ℕ) → k < n → f k ≡ true) → passing n f ≡ n
+unfolding passing
+all_passing zero f h = refl
+all_passing (suc n) f h = passing_yes n f (h n (omega arith)) ∙ ap suc (all_passing n f (λ k l. h k (omega arith)))
+
+-- numbers that pass one of two tests, and none both
+pub passing_either : (n : ℕ) (f g h : ℕ → Bool) → ((k : ℕ) → ((f k ≡ false) × (h k ≡ g k)) ⊎ ((g k ≡ false) × (h k ≡ f k))) → passing n h ≡ passing n f + passing n g
+unfolding passing
+passing_either zero f g h s = refl
+passing_either (suc n) f g h s =
+    let r = passing_either n f g h s in
+    elim (s n) [
+      | inl x ↦
+          (let a = passing_no n f x.0 in
+          elim (cases_Bool (g n)) [
+            | inl y ↦ (let b = passing_yes n g y in let d = passing_yes n h (x.1 ∙ y) in omega arith)
+            | inr y ↦ (let b = passing_no n g y in let d = passing_no n h (x.1 ∙ y) in omega arith)
+          ])
+      | inr x ↦
+          (let a = passing_no n g x.0 in
+          elim (cases_Bool (f n)) [
+            | inl y ↦ (let b = passing_yes n f y in let d = passing_yes n h (x.1 ∙ y) in omega arith)
+            | inr y ↦ (let b = passing_no n f y in let d = passing_no n h (x.1 ∙ y) in omega arith)
+          ])
+    ]
+
 -- one number passes besides those that did
 pub passing_more : (n : ℕ) (f g : ℕ → Bool) (c : ℕ) → c < n → f c ≡ false → g c ≡ true → ((k : ℕ) → (k ≡ c → ⊥) → g k ≡ f k) → passing n g ≡ passing n f + 1
 unfolding passing
@@ -86,44 +132,45 @@ passing_more (suc n) f g c l a b h =
 pub count_same : (v w : Waiting) (p : ℕ) → Same v w → count_at v p ≡ count_at w p
 count_same v w p h = passing_same 256 (waits_at v p) (waits_at w p) (λ k l. ap (stays_at p) (h k))
 
+-- a cell more, and a cell less, at its own number and at the others
+pub with_at : (w : Waiting) (c : ℕ) (s : Stay) (k : ℕ) → k ≡ c → with_cell w c s k ≡ Some s
+with_at w c s k q = ap (λ b. cond b (Some s) (w k)) (eq-eqb k c q)
+
+pub with_off : (w : Waiting) (c : ℕ) (s : Stay) (k : ℕ) → (k ≡ c → ⊥) → with_cell w c s k ≡ w k
+with_off w c s k n = ap (λ b. cond b (Some s) (w k)) (ne_eqb k c n)
+
+pub without_at : (w : Waiting) (c k : ℕ) → k ≡ c → without_cell w c k ≡ None
+without_at w c k q = ap (λ b. cond b None (w k)) (eq-eqb k c q)
+
+pub without_off : (w : Waiting) (c k : ℕ) → (k ≡ c → ⊥) → without_cell w c k ≡ w k
+without_off w c k n = ap (λ b. cond b None (w k)) (ne_eqb k c n)
+
 -- a cell more at its port, and none more elsewhere
-with_other : (w : Waiting) (c : ℕ) (s : Stay) (k : ℕ) → (k ≡ c → ⊥) → with_cell w c s k ≡ w k
-with_other w c s k n = ap (λ b. cond b (Some s) (w k)) (ne_eqb k c n)
-
-with_here : (w : Waiting) (c : ℕ) (s : Stay) → with_cell w c s c ≡ Some s
-with_here w c s = ap (λ b. cond b (Some s) (w c)) (eq-eqb c c refl)
-
 pub count_with : (w : Waiting) (c : ℕ) (s : Stay) (p : ℕ) → c < 256 → w c ≡ None → s.port ≡ p → count_at (with_cell w c s) p ≡ count_at w p + 1
 count_with w c s p l a e =
     passing_more 256 (waits_at w p) (waits_at (with_cell w c s) p) c l (ap (stays_at p) a)
-    (ap (stays_at p) (with_here w c s) ∙ eq-eqb s.port p e) (λ k n. ap (stays_at p) (with_other w c s k n))
+    (ap (stays_at p) (with_at w c s c refl) ∙ eq-eqb s.port p e) (λ k n. ap (stays_at p) (with_off w c s k n))
 
 pub count_with_other : (w : Waiting) (c : ℕ) (s : Stay) (p : ℕ) → w c ≡ None → (s.port ≡ p → ⊥) → count_at (with_cell w c s) p ≡ count_at w p
 count_with_other w c s p a n =
     passing_same 256 (waits_at (with_cell w c s) p) (waits_at w p)
     (λ k l. elim (cases_eq k c) [
-      | inl q ↦ ap (waits_at (with_cell w c s) p) q ∙ ap (stays_at p) (with_here w c s) ∙ ne_eqb s.port p n ∙ sym (ap (stays_at p) (ap w q ∙ a))
-      | inr q ↦ ap (stays_at p) (with_other w c s k q)
+      | inl q ↦ ap (stays_at p) (with_at w c s k q) ∙ ne_eqb s.port p n ∙ sym (ap (stays_at p) (ap w q ∙ a))
+      | inr q ↦ ap (stays_at p) (with_off w c s k q)
     ])
 
--- a cell less
-without_other : (w : Waiting) (c k : ℕ) → (k ≡ c → ⊥) → without_cell w c k ≡ w k
-without_other w c k n = ap (λ b. cond b None (w k)) (ne_eqb k c n)
-
-without_here : (w : Waiting) (c : ℕ) → without_cell w c c ≡ None
-without_here w c = ap (λ b. cond b None (w c)) (eq-eqb c c refl)
-
+-- a cell less at its port, and none less elsewhere
 pub count_without : (w : Waiting) (c p : ℕ) → c < 256 → At w p c → count_at w p ≡ count_at (without_cell w c) p + 1
 count_without w c p l a =
-    passing_more 256 (waits_at (without_cell w c) p) (waits_at w p) c l (ap (stays_at p) (without_here w c)) a
-    (λ k n. sym (ap (stays_at p) (without_other w c k n)))
+    passing_more 256 (waits_at (without_cell w c) p) (waits_at w p) c l (ap (stays_at p) (without_at w c c refl)) a
+    (λ k n. sym (ap (stays_at p) (without_off w c k n)))
 
 pub count_without_other : (w : Waiting) (c p : ℕ) → waits_at w p c ≡ false → count_at (without_cell w c) p ≡ count_at w p
 count_without_other w c p a =
     passing_same 256 (waits_at (without_cell w c) p) (waits_at w p)
     (λ k l. elim (cases_eq k c) [
-      | inl q ↦ ap (waits_at (without_cell w c) p) q ∙ ap (stays_at p) (without_here w c) ∙ sym (ap (waits_at w p) q ∙ a)
-      | inr q ↦ ap (stays_at p) (without_other w c k q)
+      | inl q ↦ ap (stays_at p) (without_at w c k q) ∙ sym (ap (waits_at w p) q ∙ a)
+      | inr q ↦ ap (stays_at p) (without_off w c k q)
     ])
 
 -- no cell waits where every port is empty
@@ -138,8 +185,4 @@ empty_ports w limits h c = go (w c) refl
         absurd (false≢true (sym (passing_none 256 (waits_at w s.port) (h s.port (let x = b.1 in omega arith)) c (let x = b.0 in omega arith)) ∙ yes-at))
 
 pub empty_count : (w : Waiting) (p : ℕ) → Empty w → count_at w p ≡ 0
-empty_count w p h =
-    elim (cases_eq (count_at w p) 0) [
-      | inl z ↦ z
-      | inr z ↦ (let r = passing_find 256 (waits_at w p) (omega arith) in absurd (false≢true (ap (stays_at p) (sym (h r.0)) ∙ r.2)))
-    ]
+empty_count w p h = passing_zero 256 (waits_at w p) (λ k l. ap (stays_at p) (h k))

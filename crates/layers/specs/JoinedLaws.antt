@@ -5,9 +5,9 @@ use Rattle.std.proofs.lemmas.Bool.{cases_Bool, cases_eq, eq-eqb, ne_eqb}
 use Rattle.discipline.specs.declared.stay.Stay.{Stay}
 use Rattle.discipline.specs.Calls.{arrive_test, pick_test, withdraw_test}
 use Rattle.discipline.specs.Meaning.{Waiting, waits_at, count_at, Same, Lawful, with_cell, without_cell}
+use Rattle.discipline.proofs.Tests.{chosen_at, withdraw_tells}
 use Rattle.layers.specs.Halves.{joined, Apart, half_choice, Either, BothSound}
 use Rattle.layers.specs.Joining.{arrive_free, arrive_alike, only_first, only_second, not_first, not_second, with_first, with_second, without_first, without_second, pick_first, pick_second, withdraw_first, withdraw_second}
-use Rattle.layers.specs.Limited.{chosen_at, withdrawn_at}
 use Rattle.layers.specs.Ways.{either_yes, either_no}
 
 -- the halves are a and b before the call, and x and y after it; v and w are the cells that wait in them
@@ -73,5 +73,5 @@ module _ {A B : Type 0} (v : A → Waiting) (w : B → Waiting) (P : A → Type 
             (let k = either_no (waits_at (v a) p c) (F × (y ≡ b)) (S × (x ≡ a)) e z in
             let passes = sym (withdraw_second (v a) (w b) p c i.2 e) ∙ h in
             let r = second passes k.0 in
-            second_changed R k.1 i.0 r.0 (without_second (v a) (w b) (w y) c i.2 (not_first (v a) (w b) p c i.2 (withdrawn_at (w b) p c passes)) r.1))
+            second_changed R k.1 i.0 r.0 (without_second (v a) (w b) (w y) c i.2 (not_first (v a) (w b) p c i.2 (withdraw_tells (w b) p c passes).2) r.1))
       ]

@@ -1,36 +1,16 @@
 -- The cells of two halves together.
-use Rattle.std.proofs.Common.{◌≡◌, ℕ, zero, suc, ◌+◌, ◌≤◌, Bool, false, cond, not, ◌||◌, eqb, ltb, ◌⊎◌, is_some, Some, None, Option, sym, refl, ap, ◌∙◌, inl, inr, arith}
-use Rattle.std.proofs.lemmas.Bool.{cases_eq, cases_Bool, eq-eqb, ne_eqb, false≢true}
+use Rattle.std.proofs.Common.{◌≡◌, ℕ, ◌+◌, ◌≤◌, false, cond, not, ◌||◌, eqb, ltb, is_some, Some, None, Option, sym, refl, ap, ◌∙◌, inl, inr, arith}
+use Rattle.std.proofs.lemmas.Bool.{cases_eq, eq-eqb, ne_eqb, false≢true}
 use Rattle.refusal.specs.Tests.{when, or_else}
 use Rattle.refusal.specs.declared.Refusal.TheVariants.{OutOfRange, AlreadyWaits, NoneWaits, NotWaiting}
-use Rattle.refusal.proofs.Ordered.{or_else_passes, when_passes}
+use Rattle.refusal.proofs.Options.{none_some}
 use Rattle.discipline.specs.declared.stay.Stay.{Stay}
 use Rattle.discipline.specs.Calls.{arrive_test, pick_test, withdraw_test}
-use Rattle.discipline.specs.Meaning.{Waiting, stays_at, waits_at, At, passing, count_at, Limits, Same, Lawful, with_cell, without_cell}
-use Rattle.discipline.proofs.Counting.{passing_yes, passing_no, passing_some, passing_find}
+use Rattle.discipline.specs.Meaning.{Waiting, stays_at, waits_at, At, count_at, Limits, Same, Lawful, with_cell, without_cell}
+use Rattle.discipline.proofs.Counting.{passing_either, passing_some, passing_find, with_at, with_off, without_at, without_off}
+use Rattle.discipline.proofs.Stays.{at_limit}
+use Rattle.discipline.proofs.Tests.{arrive_tells}
 use Rattle.layers.specs.Halves.{stay_of, joined, Apart, half_choice}
-use Rattle.layers.specs.Limited.{at_limit}
-
--- numbers that pass one of two tests, and none both
-pub passing_either : (n : ℕ) (f g h : ℕ → Bool) → ((k : ℕ) → ((f k ≡ false) × (h k ≡ g k)) ⊎ ((g k ≡ false) × (h k ≡ f k))) → passing n h ≡ passing n f + passing n g
-unfolding passing
-passing_either zero f g h s = refl
-passing_either (suc n) f g h s =
-    let r = passing_either n f g h s in
-    elim (s n) [
-      | inl x ↦
-          (let a = passing_no n f x.0 in
-          elim (cases_Bool (g n)) [
-            | inl y ↦ (let b = passing_yes n g y in let d = passing_yes n h (x.1 ∙ y) in omega arith)
-            | inr y ↦ (let b = passing_no n g y in let d = passing_no n h (x.1 ∙ y) in omega arith)
-          ])
-      | inr x ↦
-          (let a = passing_no n g x.0 in
-          elim (cases_Bool (f n)) [
-            | inl y ↦ (let b = passing_yes n f y in let d = passing_yes n h (x.1 ∙ y) in omega arith)
-            | inr y ↦ (let b = passing_no n f y in let d = passing_no n h (x.1 ∙ y) in omega arith)
-          ])
-    ]
 
 stay_none : (o : Option Stay) → stay_of o None ≡ o
 stay_none (Some s) = refl
@@ -97,19 +77,6 @@ lawful_joined v w p x y l m a f s c h =
           ap (waits_at (joined v w) p) (ap (λ b. cond b y x) (ne_eqb (count_at v p) 0 z)) ∙ at_first v w p x a (f k.0 k.2))
     ]
 
--- a cell more, and a cell less, at its own number and at the others
-pub with_at : (w : Waiting) (c : ℕ) (s : Stay) (k : ℕ) → k ≡ c → with_cell w c s k ≡ Some s
-with_at w c s k q = ap (λ b. cond b (Some s) (w k)) (eq-eqb k c q)
-
-pub with_off : (w : Waiting) (c : ℕ) (s : Stay) (k : ℕ) → (k ≡ c → ⊥) → with_cell w c s k ≡ w k
-with_off w c s k n = ap (λ b. cond b (Some s) (w k)) (ne_eqb k c n)
-
-pub without_at : (w : Waiting) (c k : ℕ) → k ≡ c → without_cell w c k ≡ None
-without_at w c k q = ap (λ b. cond b None (w k)) (eq-eqb k c q)
-
-pub without_off : (w : Waiting) (c k : ℕ) → (k ≡ c → ⊥) → without_cell w c k ≡ w k
-without_off w c k n = ap (λ b. cond b None (w k)) (ne_eqb k c n)
-
 -- a cell comes to the first half, or to the second
 pub with_first : (v w x : Waiting) (c : ℕ) (s : Stay) → Apart v w → w c ≡ None → Same x (with_cell v c s) → Apart x w × Same (joined x w) (with_cell (joined v w) c s)
 with_first v w x c s a e h = (
@@ -161,14 +128,12 @@ without_second v w x c a e h = (
 )
 
 -- the tests of the whole and of the half that is asked
-none_either : (o q : Option Stay) → is_some (stay_of o q) ≡ false → (o ≡ None) × (q ≡ None)
-none_either None None h = (refl, refl)
-none_either None (Some s) h = let z : ◌≡◌ {A = ℕ} 0 1 = cc in absurd (omega arith)
-none_either (Some s) q h = let z : ◌≡◌ {A = ℕ} 0 1 = cc in absurd (omega arith)
+none_either : (o q : Option Stay) → stay_of o q ≡ None → (o ≡ None) × (q ≡ None)
+none_either None q h = (refl, h)
+none_either (Some s) q h = absurd (none_some s h refl)
 
 pub arrive_free : (v w : Waiting) (p c f : ℕ) → arrive_test (joined v w) p c f ≡ None → (v c ≡ None) × (w c ≡ None)
-arrive_free v w p c f h =
-    none_either (v c) (w c) (when_passes (is_some (joined v w c)) AlreadyWaits (or_else_passes (when (ltb 31 p || (ltb 255 c || ltb 7 f)) OutOfRange) (when (is_some (joined v w c)) AlreadyWaits) h).1)
+arrive_free v w p c f h = none_either (v c) (w c) (arrive_tells (joined v w) p c f h).3
 
 pub arrive_alike : (v w : Waiting) (p c f : ℕ) → v c ≡ w c → arrive_test v p c f ≡ arrive_test w p c f
 arrive_alike v w p c f e = ap (λ o. or_else (when (ltb 31 p || (ltb 255 c || ltb 7 f)) OutOfRange) (when (is_some o) AlreadyWaits)) e

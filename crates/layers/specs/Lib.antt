@@ -2,7 +2,6 @@ pub mod Ages
 pub mod Halves
 pub mod Making
 pub mod Ways
-pub mod Limited
 pub mod Joining
 pub mod Noting
 pub mod Scanning

@@ -3,8 +3,8 @@ use Rattle.std.proofs.Common.{◌≡◌, ℕ, ◌<◌, List, length, get_or, set
 use Rattle.std.proofs.lemmas.Bool.{cases_eq, false≢true}
 use Rattle.discipline.specs.declared.stay.Stay.{Stay}
 use Rattle.discipline.specs.Meaning.{Waiting, At, Same, stays_at, with_cell, without_cell}
+use Rattle.discipline.proofs.Counting.{with_at, with_off, without_at, without_off}
 use Rattle.layers.specs.Ages.{slot_of, Noted}
-use Rattle.layers.specs.Joining.{with_at, with_off, without_at, without_off}
 
 -- a cell that waits has its arrival slot in the table
 pub noted_slot : (slots : List ℕ) (w : Waiting) (p c : ℕ) → Noted slots w → At w p c → get_or slots c 0 ≡ slot_of (w c)

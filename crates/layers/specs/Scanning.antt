@@ -2,8 +2,8 @@
 use Rattle.std.proofs.Common.{◌≡◌, ℕ, zero, suc, ◌+◌, ◌-◌, ◌<◌, true, false, cond, ltb, leb, List, get_or, Some, None, Option, sym, refl, ap, ◌∙◌, subst, inl, inr, add-one, arith}
 use Rattle.std.proofs.lemmas.Bool.{cases_eq, cases_Bool, cases_lt, lt-ltb, le-ltb, and_parts}
 use Rattle.discipline.specs.Meaning.{Waiting, waits_at, At, Limits, Lawful}
+use Rattle.discipline.proofs.Stays.{at_limit}
 use Rattle.layers.specs.Ages.{slot_of, old, Old, Earlier, Oldest, earlier_of, oldest_below, aged_choice, Noted}
-use Rattle.layers.specs.Limited.{at_limit}
 use Rattle.layers.specs.Noting.{noted_slot}
 
 -- the scan of the cells below n has found none, or the oldest of them

@@ -1,3 +1,4 @@
 pub mod Facts
 pub mod Growth
+pub mod Hops
 pub mod Passed

@@ -3,15 +3,13 @@ use Rattle.std.specs.Prelude.{◌≡◌, ℕ, zero, suc, ◌+◌, ◌<◌, ◌�
 use Rattle.std.proofs.Common.{sym, ap, ◌∙◌, inl, inr, arith}
 use Rattle.std.specs.List.{remove}
 use Rattle.std.proofs.lemmas.Bool.{cases_eq, cases_Bool, eq-eqb, ne_eqb, lt-ltb, ltb-true, and_parts, and_from, not-true, cond-true, cond-false}
+use Rattle.refusal.proofs.Options.{none_some}
 use Rattle.discipline.specs.Meaning.{passing, count_at, Limits, Same, with_cell, without_cell}
 use Rattle.discipline.specs.declared.stay.Stay.{Stay}
 use Rattle.discipline.proofs.Counting.{passing_few, passing_more, count_with, count_with_other, empty_count}
+use Rattle.discipline.proofs.Tests.{none_waits}
 use Rattle.queues.specs.Entries.{stay_of, no_entry, waiting_in, at_port, without, proper}
 use Rattle.queues.specs.declared.entry.Entry.{Entry}
-
-pub none_waits : (o : Option Stay) → is_some o ≡ false → o ≡ None
-none_waits None h = refl
-none_waits (Some s) h = let z : ◌≡◌ {A = ℕ} 0 1 = cc in absurd (omega arith)
 
 -- what proper says of the first entry, and of the others
 pub record Fits (e : Entry) (q : List Entry) : Type 0 where
@@ -45,12 +43,9 @@ waits_first e q k h = cond-true (k == e.cell) (Some (stay_of e)) (waiting_in q k
 pub waits_later : (e : Entry) (q : List Entry) (k : ℕ) → (k ≢ e.cell) → waiting_in (e ∷ q) k ≡ waiting_in q k
 waits_later e q k h = cond-false (k == e.cell) (Some (stay_of e)) (waiting_in q k) (ne_eqb k e.cell h)
 
-some_is_not_none : (s : Stay) (o : Option Stay) → o ≡ Some s → o ≢ None
-some_is_not_none s o h k = let z : ◌≡◌ {A = ℕ} 0 1 = cc in omega arith
-
 -- a cell that is not first, where the whole list has no entry of it
 none_first : (e : Entry) (q : List Entry) (k : ℕ) → waiting_in (e ∷ q) k ≡ None → k ≢ e.cell
-none_first e q k h x = some_is_not_none (stay_of e) (waiting_in (e ∷ q) k) (waits_first e q k x) h
+none_first e q k h x = none_some (stay_of e) h (waits_first e q k x)
 
 none_later : (e : Entry) (q : List Entry) (k : ℕ) → waiting_in (e ∷ q) k ≡ None → waiting_in q k ≡ None
 none_later e q k h = sym (waits_later e q k (none_first e q k h)) ∙ h
@@ -76,7 +71,7 @@ waits_at_place (e ∷ q) zero h l = waits_first e q e.cell refl
 waits_at_place (e ∷ q) (suc i) h l =
     let f = fits e q h in
     let w = waits_at_place q i f.rest (omega arith) in
-    let other : (get_or q i no_entry).cell ≡ e.cell → ⊥ = λ x. some_is_not_none (stay_of (slice_index_or q i no_entry)) (waiting_in q (get_or q i no_entry).cell) w (ap (waiting_in q) x ∙ f.new) in
+    let other : (get_or q i no_entry).cell ≡ e.cell → ⊥ = λ x. none_some (stay_of (slice_index_or q i no_entry)) (ap (waiting_in q) x ∙ f.new) w in
     waits_later e q (get_or q i no_entry).cell other ∙ w
 
 -- how many entries are at a port is how many cells wait there
@@ -249,7 +244,7 @@ removed_is (x ∷ q) zero h l =
 removed_is (x ∷ q) (suc i) h l =
     let f = fits x q h in
     let w = waits_at_place q i f.rest (omega arith) in
-    let other : x.cell ≡ (get_or q i no_entry).cell → ⊥ = λ z. some_is_not_none (stay_of (slice_index_or q i no_entry)) (waiting_in q (get_or q i no_entry).cell) w (ap (waiting_in q) (sym z) ∙ f.new) in
+    let other : x.cell ≡ (get_or q i no_entry).cell → ⊥ = λ z. none_some (stay_of (slice_index_or q i no_entry)) (ap (waiting_in q) (sym z) ∙ f.new) w in
     ap (λ r. x ∷ r) (removed_is q i f.rest (omega arith)) ∙ sym (without_other x q (get_or q i no_entry).cell other)
 
 pub at_port_removed : (q : List Entry) (i p : ℕ) → i < length q → at_port q p ≡ at_port (remove q i) p + at_port (slice_index_or q i no_entry ∷ []) p

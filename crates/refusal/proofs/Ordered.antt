@@ -45,10 +45,7 @@ module _ (f : ℕ → Option Refusal) where
         | inr q ↦ ap (λ o. or_else o (f n)) (each_below_stops i n e (omega arith) h k)
       ]
 
-  -- a loop of calls that only test: a turn that passes, and one that is refused
-  pub turn_passes : (i : ℕ) (u : Unit {0}) → each_below i f ≡ None → Ok u ≡ tested (f i) → each_below (i + 1) f ≡ None
-  turn_passes i u h k = each_below_more i h (tested_passes (f i) u k)
-
+  -- a loop of calls that only test: a turn that is refused
   pub turn_refuses : (i n : ℕ) (e : Refusal) → i < n → each_below i f ≡ None → Err e ≡ tested (f i) → Err e ≡ tested (each_below n f)
   turn_refuses i n e l h k = sym (ap tested (each_below_stops i n e l h (tested_refuses (f i) e k)))
 

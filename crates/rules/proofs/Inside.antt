@@ -4,7 +4,7 @@ use Rattle.std.proofs.lemmas.Bool.{cases_eq, cases_Bool, eq-eqb, ne_eqb, ltb-tru
 use Rattle.refusal.proofs.Options.{none_some, some_one}
 use Rattle.discipline.specs.Calls.{arrive_test}
 use Rattle.discipline.specs.Meaning.{Waiting, passing}
-use Rattle.discipline.proofs.Stays.{pick_passes}
+use Rattle.discipline.proofs.Tests.{pick_passes_at}
 use Rattle.discipline.proofs.Counting.{passing_same, passing_more}
 use Rattle.network.specs.Networks.{Network, Hop, Sound}
 use Rattle.network.specs.Schedules.{arrival}
@@ -157,7 +157,7 @@ module _ (N : Network) (flow : ℕ → ℕ) (t : ℕ) (O : Sound N) {D : Type 0}
 
       pub sends_inside : Inside N waiting sound t n
       sends_inside =
-          let law = L.picked m.queue p t c n.queue I.lawful (pick_passes (waiting m.queue) (L.limits m.queue I.lawful) p c S.there) S.picked in
+          let law = L.picked m.queue p t c n.queue I.lawful (pick_passes_at (waiting m.queue) (L.limits m.queue I.lawful) p c S.there) S.picked in
           record {
             placed = λ k lk. elim (cases_eq k c) [
               | inl q ↦ subst (λ j. Placed N n.sent t j (n.condition j)) (sym q) here

@@ -1,11 +1,8 @@
 -- Cells that wait in the discipline of a run, and picks of them.
-use Rattle.std.proofs.Common.{◌≡◌, ℕ, ◌<◌, Bool, true, false, eqb, ltb, ℤ, Some, None, refl, ap, inl, inr, arith}
-use Rattle.std.proofs.lemmas.Bool.{cases_lt, eqb-false}
-use Rattle.refusal.specs.Tests.{when, or_else}
-use Rattle.refusal.specs.declared.Refusal.TheVariants.{OutOfRange, NoneWaits}
+use Rattle.std.proofs.Common.{◌≡◌, ℕ, ◌<◌, ℤ, Some, refl, ap, inl, inr}
+use Rattle.std.proofs.lemmas.Bool.{cases_lt}
 use Rattle.refusal.proofs.Options.{none_some, some_one}
-use Rattle.discipline.specs.Calls.{pick_test}
-use Rattle.discipline.specs.Meaning.{Waiting, count_at}
+use Rattle.discipline.specs.Meaning.{Waiting}
 use Rattle.discipline.specs.declared.stay.Stay.{Stay}
 use Rattle.discipline.proofs.Stays.{at_stay}
 use Rattle.network.specs.Networks.{Network}
@@ -14,15 +11,6 @@ use Rattle.rules.specs.Moments.{Moment, stay}
 use Rattle.rules.specs.Rules.{Sends}
 use Rattle.rules.specs.declared.condition.Condition.{Condition}
 use Rattle.rules.specs.declared.condition.Condition.TheVariants as is
-
--- a pick that passes finds a cell
-pub pass_some : (w : Waiting) (p : ℕ) → pick_test w p ≡ None → 0 < count_at w p
-pass_some w p e = go (ltb 31 p) (eqb (count_at w p) 0) refl e
-  where
-    go : (a b : Bool) → eqb (count_at w p) 0 ≡ b → or_else (when a OutOfRange) (when b NoneWaits) ≡ None → 0 < count_at w p
-    go true b q h = absurd (none_some OutOfRange h refl)
-    go false true q h = absurd (none_some NoneWaits h refl)
-    go false false q h = let n = eqb-false (count_at w p) 0 q in elim (cases_lt 0 (count_at w p)) [ inl l ↦ l | inr l ↦ absurd (n (omega arith)) ]
 
 -- a cell with a stay waits at the port of its position
 pub waits_so : (N : Network) (c : ℕ) (k : Condition) (s : Stay) → stay N c k ≡ Some s → (h : ℕ) × (a : ℕ) × (k ≡ is.Waiting h a) × (N.port c h ≡ s.port)

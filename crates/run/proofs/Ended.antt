@@ -1,9 +1,8 @@
 -- When a run has ended, and by when it does.
-use Rattle.std.proofs.Common.{◌≡◌, ℕ, zero, suc, ◌+◌, ◌-◌, ◌*◌, ◌<◌, ◌≤◌, Bool, true, false, cond, ◌||◌, eqb, ltb, leb, List, [], ◌∷◌, length, get_or, Some, None, unwrap_or, sym, refl, ap, ◌∙◌, inl, inr, mul-le-mul_right, arith}
-use Rattle.std.proofs.Math.Bool.{or-false}
-use Rattle.std.proofs.lemmas.Bool.{cases_Bool, eq-eqb, ne_eqb, le-leb, leb-true, ltb-true, or_cases, or_left, or_right, false≢true}
-use Rattle.discipline.specs.Meaning.{Waiting, passing}
-use Rattle.discipline.proofs.Counting.{passing_few, passing_more}
+use Rattle.std.proofs.Common.{◌≡◌, ℕ, zero, suc, ◌+◌, ◌-◌, ◌*◌, ◌<◌, ◌≤◌, true, false, ltb, leb, List, [], ◌∷◌, length, get_or, Some, None, unwrap_or, sym, refl, ap, ◌∙◌, inl, inr, mul-le-mul_right, arith}
+use Rattle.std.proofs.lemmas.Bool.{cases_Bool, le-leb, leb-true, ltb-true, or_cases, or_left, false≢true}
+use Rattle.discipline.specs.Meaning.{Waiting}
+use Rattle.discipline.proofs.Counting.{passing_all, all_passing}
 use Rattle.network.specs.Networks.{Network, Hop, Sound, sum, hops}
 use Rattle.network.proofs.Bound.{all_end}
 use Rattle.plan.specs.Cells.{Planned, no_cell, hops_in}
@@ -28,22 +27,6 @@ sum_shift f (suc n) = let i = sum_shift f n in omega arith
 hops_same : (cs : List Planned) → sum (λ c. length (get_or cs c no_cell).route) (length cs) ≡ hops_in cs
 hops_same [] = refl
 hops_same (c ∷ cs) = sum_shift (λ k. length (get_or (c ∷ cs) k no_cell).route) (length cs) ∙ ap (λ n. length c.route + n) (hops_same cs)
-
--- where as many pass as there are, all pass
-passing_all : (n : ℕ) (f : ℕ → Bool) → n ≤ passing n f → (k : ℕ) → k < n → f k ≡ true
-passing_all n f h k l = elim (cases_Bool (f k)) [
-  | inl y ↦ y
-  | inr y ↦ absurd (
-      let g : ℕ → Bool = λ j. f j || eqb j k in
-      let a = passing_more n f g k l y (or_right (f k) (eqb k k) (eq-eqb k k refl)) (λ j ne. ap (λ b. f j || b) (ne_eqb j k ne) ∙ or-false (f j)) in
-      let b = passing_few n g in
-      omega arith)
-]
-
-all_passing : (n : ℕ) (f : ℕ → Bool) → ((k : ℕ) → k < n → f k ≡ true) → passing n f ≡ n
-unfolding passing
-all_passing zero f h = refl
-all_passing (suc n) f h = ap (λ b. cond b (suc (passing n f)) (passing n f)) (h n (omega arith)) ∙ ap suc (all_passing n f (λ k l. h k (omega arith)))
 
 -- a cell that is not gone has a hop from which it was not sent
 unsent_hop : (N : Network) → Sound N → (s : Sent) (t c : ℕ) (k : Condition) → c < N.cells → Placed N s t c k → is_gone k ≡ false → (h : ℕ) × Hop N c h × (s c h ≡ None)

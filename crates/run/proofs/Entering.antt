@@ -1,13 +1,11 @@
 -- A cell enters or lands.
-use Rattle.std.proofs.Common.{◌≡◌, ℕ, ◌<◌, false, ◌||◌, ltb, List, length, get_or, set, ℤ, pos, is_some, Some, None, Ok, Err, Option, Result, sym, refl, ap, ◌∙◌, subst, arith}
+use Rattle.std.proofs.Common.{◌≡◌, ℕ, ◌<◌, false, List, length, get_or, set, ℤ, pos, Some, None, Ok, Err, Option, Result, sym, refl, ap, ◌∙◌, subst, arith}
 use Rattle.std.proofs.lemmas.List.{get_or-set_same, get_or-set_other}
-use Rattle.std.proofs.lemmas.Bool.{le-ltb, or_from}
 use Rattle.refusal.proofs.Options.{none_some}
-use Rattle.refusal.specs.Tests.{when, or_else}
 use Rattle.refusal.specs.declared.Refusal.{Refusal}
-use Rattle.refusal.specs.declared.Refusal.TheVariants.{OutOfRange, AlreadyWaits}
 use Rattle.discipline.specs.Calls.{arrive_test, Answers}
 use Rattle.discipline.specs.Meaning.{Waiting}
+use Rattle.discipline.proofs.Tests.{arrive_passes}
 use Rattle.network.specs.Networks.{Network, Hop, Sound}
 use Rattle.plan.specs.Plans.{cells_of, delays_of}
 use Rattle.rules.specs.Conditions.{next_condition}
@@ -34,14 +32,10 @@ lands N s t c (is.OnLink h u) O l p e = (h, refl, p.0, refl)
 lands N s t c is.Gone O l p e = absurd (none_some t refl e)
 
 -- the discipline accepts a cell of the plan that does not wait
-pub arrive_passes : (r : Recording) (w : Waiting) (c h : ℕ) → Hop (network_of r) c h → w c ≡ None
+pub plan_arrives : (r : Recording) (w : Waiting) (c h : ℕ) → Hop (network_of r) c h → w c ≡ None
     → arrive_test w ((network_of r).port c h) c (flows r c) ≡ None
-arrive_passes r w c h on e =
-    let port = le-ltb 31 ((network_of r).port c h) (net.port_few r.plan c h on) in
-    let cell = le-ltb 255 c (net.cell_few r.plan c on.cell) in
-    let flow = le-ltb 7 (flows r c) (net.flow_few r.plan c on.cell) in
-    let range : (ltb 31 ((network_of r).port c h) || (ltb 255 c || ltb 7 (flows r c))) ≡ false = or_from _ _ port (or_from _ _ cell flow) in
-    ap (λ b. or_else (when b OutOfRange) (when (is_some (w c)) AlreadyWaits)) range ∙ ap (λ o. when (is_some o) AlreadyWaits) e
+plan_arrives r w c h on e =
+    arrive_passes w ((network_of r).port c h) c (flows r c) (net.port_few r.plan c h on) (net.cell_few r.plan c on.cell) (net.flow_few r.plan c on.cell) e
 
 -- what an accepted call leaves
 pub accepted : {D X : Type 0} (test : Option Refusal) (d e : D) (Step : X → Type 0) (a : Result X Refusal) → test ≡ None → Answers test d a e Step → (x : X) × Step x
@@ -83,7 +77,7 @@ module _ {D : Type 0} (waiting : D → Waiting) (sound : D → Type 0)
       let port : s.port ≡ (network_of r).port c to.0 = S.2 ∙ ap (λ p. (network (delays_of p) (cells_of p)).port c s.position) same.plan ∙ ap ((network_of r).port c) at in
       let flow : s.flow ≡ flows r c = S.3 ∙ ap (λ p. flow_of (cells_of p) c) same.plan in
       let free : waiting d c ≡ None = I.queued c l ∙ to.3 in
-      let pass = arrive_passes r (waiting d) c to.0 (record { cell = l; hop = to.2 }) free in
+      let pass = plan_arrives r (waiting d) c to.0 (record { cell = l; hop = to.2 }) free in
       let test : arrive_test (waiting d) s.port c s.flow ≡ None = ap (λ x. arrive_test (waiting d) x c s.flow) port ∙ ap (arrive_test (waiting d) ((network_of r).port c to.0) c) flow ∙ pass in
       let step = (accepted _ d e (λ _. arrives d s.port c s.flow r.next (pos 0) e) a test (told I.lawful)).1 in
       record {

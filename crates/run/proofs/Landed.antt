@@ -14,7 +14,7 @@ use Rattle.run.specs.Recordings.{network_of, flows, moment, Kept}
 use Rattle.run.specs.Steps.{InSlot, Enters}
 use Rattle.run.specs.declared.recording.Recording.{Recording}
 use Rattle.table.specs.declared.flight.Flight.{Flight}
-use Rattle.run.proofs.Entering.{arrive_passes}
+use Rattle.run.proofs.Entering.{plan_arrives}
 use Rattle.run.proofs.Kept.{kept_to, kept_from}
 use Rattle.run.proofs.Networks.{sound as sound_net}
 
@@ -45,7 +45,7 @@ module _ {D : Type 0} (waiting : D → Waiting) (choice : D → ℕ → ℕ → 
         (kept_to (λ N f t. pending N c ((moment q log e).condition c) ≡ Some t) r q K was.1) in
         let B = kept_from (λ N f t. Arrives N f t waiting arrives picks c (moment q log e) (moment q' log e')) r q K came in
         partly_more (network_of r) (flows r) r.next waiting sound arrives picks (moment r log d) (moment q log e) gs hs X (moment q' log e') c land B
-        (arrives_inside (network_of r) (flows r) r.next (sound_net r.plan) waiting choice sound arrives picks L (arrive_passes r) (moment q log e) (moment q' log e') X.inside c was.0 was.1 B)
+        (arrives_inside (network_of r) (flows r) r.next (sound_net r.plan) waiting choice sound arrives picks L (plan_arrives r) (moment q log e) (moment q' log e') X.inside c was.0 was.1 B)
 
     pub landed_end : Landing r.next gs None hs → Enters waiting sound arrives picks r d fs q e hs
     landed_end land log I F A =

@@ -12,7 +12,7 @@ use Rattle.rules.specs.declared.hop.HopRecord.{HopRecord}
 use Rattle.run.specs.declared.recording.Recording.{Recording}
 use Rattle.table.specs.declared.flight.Flight.{Flight}
 use Rattle.rules.proofs.Disciplines.{Laws}
-use Rattle.run.proofs.Entering.{arrive_passes}
+use Rattle.run.proofs.Entering.{plan_arrives}
 use Rattle.rules.proofs.Goes.{goes_between}
 use Rattle.run.proofs.Kept.{kept_again, kept_to, kept_from}
 use Rattle.run.proofs.Networks as net
@@ -44,7 +44,7 @@ module _ {D : Type 0} (waiting : D → Waiting) (choice : D → ℕ → ℕ → 
       (kept_from (λ N w t. Served N w t waiting arrives picks (length (delays_of q.plan)) (moment q log e) (moment p log' f)) r q K T.0) in
       let last = kept_from (λ N w t. Ahead N (suc t) (moment p log' f).condition) r q K T.3 in
       let M = kept_again K J in
-      let next = goes_between (network_of r) (flows r) r.next (net.sound r.plan) waiting choice sound arrives picks L (arrive_passes r)
+      let next = goes_between (network_of r) (flows r) r.next (net.sound r.plan) waiting choice sound arrives picks L (plan_arrives r)
       (length (delays_of r.plan)) (net.port_known r.plan) (moment r log d) (moment q log e) (moment p log' f) B E.0 E.1 E.3 served last in
       record {
         slot = record { between = moment q log e; entered = E.0; served = served };

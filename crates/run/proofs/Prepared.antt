@@ -6,7 +6,7 @@ use Rattle.std.proofs.lemmas.Bool.{cases_eq, cases_lt, lt-leb}
 use Rattle.refusal.specs.Tests.{when, tested}
 use Rattle.refusal.specs.declared.Refusal.{Refusal}
 use Rattle.refusal.specs.declared.Refusal.TheVariants.{NoPlace}
-use Rattle.plan.specs.Cells.{Planned, planned, no_cell, hops_in}
+use Rattle.plan.specs.Cells.{Planned, planned, no_cell}
 use Rattle.plan.specs.declared.cell.Cell.{Cell}
 use Rattle.table.specs.Kinds.{flight_upto}
 use Rattle.table.specs.Order.{put_in}
@@ -30,21 +30,6 @@ cell_read xs cs i x e l h = (
 -- all cells were read
 pub cells_read : (xs : List Cell) (cs : List Planned) (i : ℕ) → map planned xs ≡ cs → length xs ≤ i → i ≤ length xs → i ≡ length cs
 cells_read xs cs i e l m = omega (arith, ap length e, length-map xs planned)
-
--- the hops of one cell more
-pub first_hop_more : (cs : List Planned) (k : ℕ) → k < length cs → first_hop cs (k + 1) ≡ first_hop cs k + length (get_or cs k no_cell).route
-first_hop_more [] k l = absurd (omega arith)
-first_hop_more (x ∷ cs) zero l = omega arith
-first_hop_more (x ∷ cs) (suc k) l =
-    let i = first_hop_more cs k (omega arith) in
-    let e : first_hop (x ∷ cs) (suc k + 1) ≡ length x.route + first_hop cs (k + 1) = ap (first_hop (x ∷ cs)) (add-one (suc k)) ∙ ap (λ n. length x.route + first_hop cs n) (sym (add-one k)) in
-    omega arith
-
-pub first_hop_within : (cs : List Planned) (k : ℕ) → first_hop cs k ≤ hops_in cs
-first_hop_within [] zero = omega arith
-first_hop_within [] (suc k) = omega arith
-first_hop_within (x ∷ cs) zero = omega arith
-first_hop_within (x ∷ cs) (suc k) = let i = first_hop_within cs k in omega arith
 
 -- an array of one value
 pub get_or_same : {X : Type 0} (n i : ℕ) (x : X) → get_or (replicate n x) i x ≡ x

@@ -1,10 +1,10 @@
 -- A sealed plan is coherent.
-use Rattle.std.proofs.Common.{◌≡◌, ℕ, zero, suc, ◌<◌, ◌≤◌, Bool, false, cond, ltb, List, length, take, is_some, Some, None, sym, ap, ◌∙◌, subst, inl, inr, arith}
+use Rattle.std.proofs.Common.{◌≡◌, ℕ, zero, suc, ◌<◌, ◌≤◌, cond, ltb, List, length, take, is_some, Some, None, sym, ap, ◌∙◌, subst, inl, inr, arith}
 use Rattle.std.proofs.ByRecursion.{All-weaker}
-use Rattle.std.proofs.lemmas.Bool.{cases_eq, cases_lt, lt-ltb, le-ltb, false≢true}
+use Rattle.std.proofs.lemmas.Bool.{cases_lt, lt-ltb, le-ltb, false≢true}
 use Rattle.refusal.proofs.Options.{none_some}
-use Rattle.discipline.specs.Meaning.{Waiting, Empty, passing}
-use Rattle.discipline.proofs.Counting.{passing_same, passing_find}
+use Rattle.discipline.specs.Meaning.{Waiting, Empty}
+use Rattle.discipline.proofs.Counting.{passing_same, passing_zero}
 use Rattle.network.specs.Networks.{Network, Hop}
 use Rattle.network.proofs.Steps.{starts}
 use Rattle.plan.specs.Cells.{Planned, hops_in}
@@ -26,13 +26,6 @@ use Rattle.run.proofs.Hops.{place_within}
 
 outside_waits : {k : Condition} (h a : ℕ) → k ≡ is.Outside → k ≡ is.Waiting h a → ⊥
 outside_waits h a e f = let z : ◌≡◌ {A = ℕ} 0 1 = cc in omega arith
-
--- where no number passes
-passing_zero : (n : ℕ) (f : ℕ → Bool) → ((k : ℕ) → k < n → f k ≡ false) → passing n f ≡ 0
-passing_zero n f h = elim (cases_eq (passing n f) 0) [
-  | inl z ↦ z
-  | inr z ↦ (let r = passing_find n f (omega arith) in absurd (false≢true (sym (h r.0 r.1) ∙ r.2)))
-]
 
 module _ (ds : List ℕ) (cs : List Planned) where
   abbrev N : Network

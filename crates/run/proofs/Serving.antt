@@ -6,8 +6,8 @@ use Rattle.std.proofs.lemmas.Bool.{cases_eq, cases_lt, cases_Bool, lt-leb}
 use Rattle.refusal.proofs.Options.{none_some, some_one}
 use Rattle.refusal.specs.declared.Refusal.{Refusal}
 use Rattle.discipline.specs.Calls.{pick_test}
-use Rattle.discipline.specs.Meaning.{Waiting, At, waits_at, count_at}
-use Rattle.discipline.proofs.Counting.{passing_find, passing_few}
+use Rattle.discipline.specs.Meaning.{Waiting, At, count_at}
+use Rattle.discipline.proofs.Counting.{passing_few}
 use Rattle.network.specs.Networks.{Network, Hop}
 use Rattle.plan.specs.Cells.{hops_in}
 use Rattle.plan.specs.Plans.{cells_of, delays_of}
@@ -33,10 +33,11 @@ use Rattle.table.specs.declared.flight.Flight.{Flight}
 use Rattle.rules.proofs.Disciplines.{Laws}
 use Rattle.rules.proofs.Flights.{flying_room, flying_more, flying_out}
 use Rattle.run.proofs.Hops.{place_within, place_apart}
-use Rattle.discipline.proofs.Stays.{at_stay, pick_passes}
+use Rattle.discipline.proofs.Stays.{at_stay}
+use Rattle.discipline.proofs.Tests.{pick_passes_at, chosen_at}
 use Rattle.rules.proofs.Inside.{sends_inside}
-use Rattle.rules.proofs.Waits.{pass_some, waits_so, sent_known}
-use Rattle.run.proofs.Entering.{arrive_passes}
+use Rattle.rules.proofs.Waits.{waits_so, sent_known}
+use Rattle.run.proofs.Entering.{plan_arrives}
 use Rattle.run.proofs.Kept.{kept_again, kept_to, kept_from}
 use Rattle.run.proofs.Networks as net
 
@@ -53,7 +54,7 @@ module _ {D : Type 0} (waiting : D → Waiting) (choice : D → ℕ → ℕ → 
   pub turn_idle : (x : Refusal) (e : D) → (sound d → (pick_test (waiting d) p ≡ Some x) × (e ≡ d)) → Turn waiting sound arrives picks room p r log d fs r log e fs
   turn_idle x e told I F A long wide =
       let a = told I.lawful in (
-        inl (λ c at. none_some x (pick_passes (waiting d) (L.limits d I.lawful) p c at) a.0, ap (moment r log) a.1),
+        inl (λ c at. none_some x (pick_passes_at (waiting d) (L.limits d I.lawful) p c at) a.0, ap (moment r log) a.1),
         F,
         A,
       )
@@ -62,9 +63,8 @@ module _ {D : Type 0} (waiting : D → Waiting) (choice : D → ℕ → ℕ → 
     there : At (waiting d) p c
     there =
         let a = told I.lawful in
-        let k = passing_find 256 (waits_at (waiting d) p) (pass_some (waiting d) p a.0) in
         let q = (L.picked d p t c e I.lawful a.0 a.1).1 in
-        subst (At (waiting d) p) (sym q) (L.chosen d I.lawful p t k.0 k.2)
+        subst (At (waiting d) p) (sym q) (chosen_at (waiting d) p (choice d p t) a.0 (L.chosen d I.lawful p t))
 
     known : c < N.cells
     known =
@@ -255,7 +255,7 @@ module _ {D : Type 0} (waiting : D → Waiting) (choice : D → ℕ → ℕ → 
             (idle X.0 z.0, X.1)
         | inr z ↦ (
           sends X.0 z.1,
-          sends_inside (network_of r) (flows r) r.next (net.sound r.plan) waiting choice sound arrives picks L (arrive_passes r) n o X.1 z.0 (sent_known (network_of r) (flows r) r.next waiting sound arrives picks p z.0 n o X.1 z.1) p z.1,
+          sends_inside (network_of r) (flows r) r.next (net.sound r.plan) waiting choice sound arrives picks L (plan_arrives r) n o X.1 z.0 (sent_known (network_of r) (flows r) r.next waiting sound arrives picks p z.0 n o X.1 z.1) p z.1,
         )
       ] in (
         subst (λ k. Served (network_of r) (flows r) r.next waiting arrives picks k m o) (sym (add-one p)) next.0,

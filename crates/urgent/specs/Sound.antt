@@ -1,5 +1,5 @@
 -- A sound queue with one cell more, with one less, and its most urgent cell.
-use Rattle.std.specs.Prelude.{◌≡◌, ℕ, ◌+◌, ◌-◌, ◌^◌, ◌<◌, ◌≤◌, Bool, true, false, cond, ◌⊎◌, List, [], length, replicate, ℤ, pos, negsuc, ◌<ℤ◌, is_some, Some, None, Option, FitsSigned, ◌≢◌, int_le, slice_index, slice_set, refl}
+use Rattle.std.specs.Prelude.{◌≡◌, ℕ, ◌+◌, ◌-◌, ◌^◌, ◌<◌, ◌≤◌, true, false, ◌⊎◌, List, [], length, replicate, ℤ, pos, negsuc, ◌<ℤ◌, is_some, Some, None, Option, FitsSigned, ◌≢◌, int_le, slice_index, slice_set, refl}
 use Rattle.std.proofs.Common.{sym, ap, subst, ◌∙◌, inl, inr, arith, length-set}
 use Rattle.std.specs.Int.{w64}
 use Rattle.std.specs.List.{ContainsAt, AllByRecursion}
@@ -10,7 +10,7 @@ use Rattle.discipline.specs.Meaning.{Waiting, At, Same, Limits, stays_at, waits_
 use Rattle.discipline.specs.declared.stay.Stay.{Stay}
 use Rattle.refusal.proofs.Options.{none_some, some_one}
 use Rattle.discipline.proofs.Stays.{at_stay}
-use Rattle.discipline.proofs.Counting.{passing_more, passing_few, passing_find, count_same, count_with, count_with_other, count_without, count_without_other, empty_count}
+use Rattle.discipline.proofs.Counting.{passing_more, passing_few, passing_find, passing_zero, with_at, with_off, without_at, without_off, count_same, count_with, count_with_other, count_without, count_without_other, empty_count}
 use Rattle.table.specs.Kinds.{due_upto}
 use Rattle.table.specs.Order.{Rising, put_in, first_from, taken_from, LeastFrom}
 use Rattle.table.specs.declared.due.DueCell.{DueCell}
@@ -41,15 +41,15 @@ module _ (st : List (Option Stay)) (ct : List ℕ) (xs : List DueCell) (room : �
   pub same_with : (c : ℕ) (s : Stay) → c < 256 → Same (waiting_by (slice_set st c (Some s))) (with_cell (waiting_by st) c s)
   same_with c s l k =
       elim (cases_eq k c) [
-        | inl q ↦ ap (waiting_by (slice_set st c (Some s))) q ∙ set_here c l (Some s) ∙ sym (ap (λ b. cond b (Some s) (waiting_by st k)) (eq-eqb k c q))
-        | inr q ↦ set_other c l (Some s) k q ∙ sym (ap (λ b. cond b (Some s) (waiting_by st k)) (ne_eqb k c q))
+        | inl q ↦ ap (waiting_by (slice_set st c (Some s))) q ∙ set_here c l (Some s) ∙ sym (with_at (waiting_by st) c s k q)
+        | inr q ↦ set_other c l (Some s) k q ∙ sym (with_off (waiting_by st) c s k q)
       ]
 
   pub same_without : (c : ℕ) → c < 256 → Same (waiting_by (slice_set st c None)) (without_cell (waiting_by st) c)
   same_without c l k =
       elim (cases_eq k c) [
-        | inl q ↦ ap (waiting_by (slice_set st c None)) q ∙ set_here c l None ∙ sym (ap (λ b. cond b None (waiting_by st k)) (eq-eqb k c q))
-        | inr q ↦ set_other c l None k q ∙ sym (ap (λ b. cond b None (waiting_by st k)) (ne_eqb k c q))
+        | inl q ↦ ap (waiting_by (slice_set st c None)) q ∙ set_here c l None ∙ sym (without_at (waiting_by st) c k q)
+        | inr q ↦ set_other c l None k q ∙ sym (without_off (waiting_by st) c k q)
       ]
 
   -- the count of one port changes
@@ -261,13 +261,6 @@ sound_none room xs none enough =
       rising = subst (Rising due_upto) (sym none) tt;
       staying = subst (AllByRecursion (Stays (replicate 256 None))) (sym none) tt;
       queued = λ c s h. absurd (none_some s (none_staying c) h);
-      size = ap length none ∙ sym (nothing_passes 256 (λ c. is_some (waiting_by (replicate 256 None) c)) (λ c. ap is_some (none_staying c)));
+      size = ap length none ∙ sym (passing_zero 256 (λ c. is_some (waiting_by (replicate 256 None) c)) (λ c l. ap is_some (none_staying c)));
       counted = λ p l. get_or-replicate 32 p 0 0 l ∙ sym (empty_count (waiting_by (replicate 256 None)) p none_staying);
     }
-  where
-    nothing_passes : (n : ℕ) (f : ℕ → Bool) → ((k : ℕ) → f k ≡ false) → passing n f ≡ 0
-    nothing_passes n f h =
-        elim (cases_eq (passing n f) 0) [
-          | inl z ↦ z
-          | inr z ↦ (let r = passing_find n f (omega arith) in absurd (true≢false (sym r.2 ∙ h r.0)))
-        ]

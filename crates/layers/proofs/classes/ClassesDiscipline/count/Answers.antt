@@ -6,7 +6,7 @@ use Rattle.discipline.specs.Meaning.{waits_at, count_at}
 use Rattle.discipline.proofs.Counting.{passing_few}
 use Rattle.layers.specs.Halves.{joined}
 use Rattle.layers.specs.Joining.{count_joined}
-use Rattle.layers.specs.Limited.{passed_told}
+use Rattle.layers.proofs.Answering.{passed_told}
 use Rattle.layers.proofs.classes.ClassesDiscipline.count.Goals as goal
 
 pub returns : goal.returns

@@ -4,9 +4,8 @@ use Rattle.refusal.specs.Tests.{when}
 use Rattle.refusal.specs.declared.Refusal.TheVariants.{OutOfRange}
 use Rattle.discipline.specs.Calls.{told}
 use Rattle.discipline.specs.Meaning.{count_at}
-use Rattle.layers.proofs.Answering.{answers_through}
+use Rattle.layers.proofs.Answering.{answers_through, passed_told}
 use Rattle.layers.specs.Joining.{pick_first, pick_second}
-use Rattle.layers.specs.Limited.{passed_told}
 use Rattle.layers.specs.Ways.{yes_either, no_either}
 use Rattle.layers.proofs.classes.ClassesDiscipline.pick.Goals as goal
 

@@ -1,9 +1,9 @@
 use Rattle.std.proofs.Common.{sym, refl, ap, ◌∙◌}
 use Rattle.refusal.specs.Tests.{when}
 use Rattle.refusal.specs.declared.Refusal.TheVariants.{AlreadyWaits}
+use Rattle.discipline.proofs.Tests.{arrive_last}
 use Rattle.queues.specs.Entries.{waiting_in}
 use Rattle.queues.specs.Lines.{queue}
-use Rattle.queues.specs.Passed.{arrive_last}
 use Rattle.queues.proofs.Kept.{found_waits}
 use Rattle.queues.proofs.line.Line.arrive.Goals as goal
 

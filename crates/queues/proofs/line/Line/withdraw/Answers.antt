@@ -3,9 +3,9 @@ use Rattle.std.proofs.lemmas.Bool.{eq-eqb, ne_eqb}
 use Rattle.refusal.specs.Tests.{when}
 use Rattle.refusal.specs.declared.Refusal.TheVariants.{NotWaiting}
 use Rattle.discipline.specs.Meaning.{stays_at}
+use Rattle.discipline.proofs.Tests.{withdraw_last, withdraw_passes}
 use Rattle.queues.specs.Entries.{waiting_in, without, no_entry}
 use Rattle.queues.specs.Lines.{queue}
-use Rattle.queues.specs.Passed.{withdraw_last}
 use Rattle.queues.proofs.Kept.{stands_with}
 use Rattle.queues.proofs.line.Line.withdraw.Goals as goal
 
@@ -33,6 +33,6 @@ returns c =
     let here =
     ap (stays_at p) (stands_with (queue l) c.args.cell at l.each_proper c.in-Some.ensures)
     ∙ eq-eqb (get_or (queue l) at no_entry).port p (sym read ∙ c.if-from-port.false) in (
-      withdraw_last (waiting_in (queue l)) p c.args.cell small.0 small.1 ∙ ap (λ b. when (not b) NotWaiting) here,
+      withdraw_passes (waiting_in (queue l)) p c.args.cell small.0 small.1 here,
       c.take_at.ensures.left ∙ ap (without (queue l)) (c.take_at.ensures.cell ∙ c.in-Some.ensures.1),
     )

@@ -1,8 +1,9 @@
 use Rattle.std.proofs.Common.{◌≡◌, refl, ◌∙◌, subst}
+use Rattle.discipline.proofs.Tests.{pick_last, pick_passes_at}
 use Rattle.queues.specs.Entries.{waiting_in, at_port, StandsAt}
 use Rattle.queues.specs.Lines.{queue}
-use Rattle.queues.specs.Queued.{at_port_counts}
-use Rattle.queues.specs.Passed.{pick_last, pick_passes}
+use Rattle.queues.specs.Queued.{at_port_counts, limits_in}
+use Rattle.queues.specs.Chosen.{stands_waits}
 use Rattle.queues.proofs.one_ended.OneEndedDiscipline.pick.Goals as goal
 
 pub returns-in_default : goal.returns-in_default
@@ -19,6 +20,6 @@ returns g c s =
     let at = c.in-Some.at in
     let choice = g.E.End.choice in
     let stands : StandsAt (queue l) p (choice (queue l) p) at = subst (λ q. StandsAt q p (choice q p) at) c.waiting.ensures c.in-Some.ensures in (
-      pick_passes (queue l) p (choice (queue l) p) at l.each_proper c.in_ok-test_port.ensures.passed stands,
+      pick_passes_at (waiting_in (queue l)) (limits_in (queue l) l.each_proper) p (choice (queue l) p) (stands_waits (queue l) p (choice (queue l) p) at l.each_proper stands),
       (c.take_at.ensures.cell ∙ stands.1, c.take_at.ensures.left),
     )

@@ -9,7 +9,7 @@ use Rattle.layout.specs.Contents.{Scheduled, no_scheduled}
 use Rattle.sheet.specs.Rows.{scheduled}
 use Rattle.sheet.specs.Sheets.{Told}
 use Rattle.sheet.specs.declared.row.Row.{Row}
-use Rattle.sheet.proofs.Totals.{hops_more, hops_part}
+use Rattle.plan.proofs.Hops.{hops_more, hops_part}
 use Rattle.sheet.proofs.sheet.build.rows_of.Goals as goal
 
 module _ (cells : List Cell) (k : ℕ) (cell : Cell) (l : k < length cells) (is : cell ≡ get_or cells k cell) where

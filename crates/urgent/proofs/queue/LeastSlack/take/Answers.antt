@@ -1,19 +1,10 @@
-use Rattle.std.proofs.Common.{◌≡◌, ℕ, ◌-◌, ◌<◌, ◌≤◌, eqb, get_or, set, Some, None, Option, sym, ap, ◌∙◌, arith}
-use Rattle.std.proofs.lemmas.Bool.{le-ltb, ne_eqb}
-use Rattle.refusal.specs.Tests.{when, or_else}
-use Rattle.refusal.specs.declared.Refusal.TheVariants.{OutOfRange, NoneWaits}
-use Rattle.discipline.specs.Calls.{pick_test}
-use Rattle.discipline.specs.Meaning.{Waiting, count_at}
+use Rattle.std.proofs.Common.{◌≡◌, ℕ, ◌-◌, ◌<◌, ◌≤◌, get_or, set, Some, None, Option, sym, ap, ◌∙◌, arith}
+use Rattle.discipline.specs.Meaning.{count_at}
+use Rattle.discipline.proofs.Tests.{pick_passes}
 use Rattle.table.specs.declared.due.DueCell.{DueCell}
 use Rattle.urgent.specs.Slack.{waiting_by, next_due, mark, due_cell}
 use Rattle.urgent.specs.Sound.{next_told, sound_remove, sound_as}
 use Rattle.urgent.proofs.queue.LeastSlack.take.Goals as goal
-
--- a pick where a cell waits passes
-pick_passes : (w : Waiting) (p : ℕ) → p ≤ 31 → 0 < count_at w p → pick_test w p ≡ None
-pick_passes w p a b =
-    ap (λ t. or_else (when t OutOfRange) (when (eqb (count_at w p) 0) NoneWaits)) (le-ltb 31 p a)
-    ∙ ap (λ t. when t NoneWaits) (ne_eqb (count_at w p) 0 (λ e. omega arith))
 
 pub returns-in_default : goal.returns-in_default
 returns-in_default g c ok =
