@@ -17,6 +17,7 @@ mod tests {
     ];
 
     // The number and the place of a refusal, if there was one.
+    // Other tests have this line too: a crate for it would be longer.
     fn refusal<T: Drop>(answer: Result<T, Refusal>) -> Option<(u8, usize)> {
         answer
             .err()

@@ -11,8 +11,8 @@ use crate::asks::waits_at;
 use discipline::{Discipline, holds_none, test_cell};
 use refusal::Refusal;
 
-// The slots are by cell, and of use where the cell waits: an array, since nothing is allocated while a run goes on. No ghost
-// field calls a layer sound, since one over a discipline that holds cells is a value as well, with open answers.
+// The slots are by cell, and of use where the cell waits: an array, since nothing is allocated while a run goes on. No
+// ghost field calls a layer sound, since one over a discipline that holds cells is a value as well, with open answers.
 #[derive(Drop)]
 pub struct Ageing<D> {
     age: u32,

@@ -11,7 +11,8 @@ use crate::asks::{waits, waits_at};
 use discipline::{Discipline, holds_none, test_arrival};
 use refusal::Refusal;
 
-// The flows below `below` go to the first, the rest to the second.
+// The flows below `below` go to the first, the rest to the second. No ghost field calls a layer sound, since one over
+// disciplines that hold cells is a value as well, with open answers.
 #[derive(Drop)]
 pub struct Classes<F, S> {
     below: usize,

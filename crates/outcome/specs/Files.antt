@@ -32,7 +32,7 @@ pub record Recorded (r : Recording) (log : List HopRecord) (x : Content) : Type 
   pub count : length x.cells ≡ length (cells_of r.plan)
   pub each : (c : ℕ) → c < length (cells_of r.plan) → CellTold r log c (slice_index_or x.cells c no_scheduled)
 
--- a recording that has not ended, or a hop log shorter than the hops; a plan without a cell, which no tested seal lets in
+-- a recording that has not ended, or too short a hop log; a plan without a cell, which no tested seal lets in
 abbrev pub file_test : Recording → List HopRecord → Option Refusal
 file_test r log = or_else (ended_test r log) (when (length (cells_of r.plan) == 0) NoCells)
 

@@ -80,6 +80,7 @@ mod tests {
         assert!(rt; size_of::<LeastSlack<Table<'_, DueCell>>>() <= 16384);
     }
 
+    // Whether it was refused by this number. Other tests have this line too: a crate for it would be longer.
     fn refused(answer: Result<(), refusal::Refusal>, number: u8) -> bool {
         answer.is_err_and(|refusal| refusal.number() == number)
     }

@@ -8,8 +8,8 @@ ghost use Rattle.queues.specs.Entries.{at_port, proper};
 use crate::entry::Entry;
 use arrayvec::ArrayVec;
 
-// The entries of the cells that wait; `counts` says how many of them are at each port, in memory of its own since nothing
-// is allocated while a run goes on. No cell stands twice, so 256 places are enough.
+// The entries of the cells that wait; `counts` says how many of them are at each port, in memory of its own, since
+// nothing is allocated while a run goes on. No cell stands twice, so 256 places are enough.
 #[derive(Drop)]
 pub struct Line {
     entries: ArrayVec<Entry, 256>,

@@ -75,6 +75,7 @@ impl<E: End> Discipline for OneEnded<E> {
 
     fn pick(&mut self, port: usize, _slot: u32) -> Result<usize, Refusal> {
         test_port(port)?;
+        // by the count, so that no entry is looked at where none waits
         if self.line.count(port) == Ok(0) {
             return Err(Refusal::NoneWaits);
         }

@@ -10,7 +10,7 @@ use run::Recording;
 use std::test::Fail;
 use table::Flight;
 
-// The number of a refusal, or none.
+// The number of a refusal, or none. Other tests have this line too: a crate for it would be longer.
 fn number<T: Drop>(answer: Result<T, Refusal>) -> Option<u8> {
     answer.err().map(|refusal| refusal.number())
 }

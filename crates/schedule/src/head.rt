@@ -65,7 +65,7 @@ impl Head {
         let cells = usize::from(word_at(bytes, 4));
         let hops = usize::from(word_at(bytes, 6));
         test_counts(ports, cells, hops)?;
-        // the limits and the length are said here too, since the writer's functions take only counts that have passed them
+        // the length as in the writer's own function, which is private to `layout`: both are tied to one definition
         if bytes.len() != 8 + 2 * ports + 10 * cells + 8 * hops {
             return Err(Refusal::WrongLength(bytes.len()));
         }

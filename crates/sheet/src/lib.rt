@@ -29,6 +29,7 @@ mod tests {
     }
 
     // The number by which a sheet is refused, or none where it is made.
+    // Other tests have this line too: a crate for it would be longer.
     fn refused(plan: &Plan, slacks: &[i32], slots: &[u32]) -> Option<u8> {
         Sheet::new(Run::Replay, Pile::Fifo, plan, slacks, slots)
             .err()

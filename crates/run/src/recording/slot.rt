@@ -46,7 +46,8 @@ fn note(log: &mut [HopRecord], place: usize, slot: u32)
     }
 }
 
-// Flights, log and discipline are lent to each call: handed on one by one, they show what a part may change.
+// Flights, log and discipline are lent to each call: handed on one by one, they show what a part may change. `Kept` relates
+// two states, so no field can hold it, and the members of a discipline go side by side, as in the clauses of `slot`.
 impl Recording {
     // A cell enters or lands: it waits from now on, and the queue discipline is told.
     fn enter<D: Discipline>(&mut self, cell: usize, queue: &mut D)

@@ -9,7 +9,7 @@ use crate::checked::Checked;
 use arrayvec::ArrayVec;
 use refusal::Refusal;
 
-// Writes a slot at a place, where there is such a place. By an index, since what is written behind `get_mut` is lost to the
+// Writes a slot at a place, where there is such a place. By an index: what is written behind `get_mut` is lost to the
 // proof.
 fn keep(places: &mut [u32], at: usize, slot: u32)
     ensures { places.new ≡ slice_set places.old at slot }
@@ -76,6 +76,7 @@ impl Checked<'_> {
     {
         let mut found = Found::none();
         let mut index = usize::from(self.image.cell(cell).first);
+        // the format: index 0 ends a chain
         while index != 0 {
             reach(seen, index)?;
             let hop = self.image.hop(index);

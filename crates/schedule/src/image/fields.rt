@@ -55,6 +55,8 @@ impl<'a> Image<'a> {
         self.head.kind == Kind::Load
     }
 
+    // Each reader below asks for the bound of its own number, of which alone it tells.
+
     // Where the delay of a port lies.
     pub(crate) fn port_offset(&self, port: usize) -> usize
         requires { port < self.now.head.ports }
