@@ -1,9 +1,8 @@
 -- An order by one part and then by another is lawful where both are, and so are the orders of the kinds.
 use Rattle.std.specs.Prelude.{◌≡◌, Bool, true, false, cond, int_le, nat_le, refl}
-use Rattle.std.proofs.Common.{arith}
+use Rattle.std.proofs.Common.{sym, arith}
 use Rattle.std.proofs.lemmas.Int.{ints}
-use Rattle.std.proofs.lemmas.Bool.{cases_Bool, false≢true}
-use Rattle.std.proofs.lemmas.Bool.Decides.{nat_tests}
+use Rattle.std.proofs.lemmas.Bool.{leb-true, leb-false, le-leb, false≢true}
 use Rattle.table.specs.Kinds.{by, ◌then◌, flight_upto, due_upto}
 use Rattle.table.specs.Order.{Lawful}
 
@@ -17,11 +16,35 @@ then_second true true d h k = h
 then_second true false d h k = absurd (false≢true k)
 then_second false c d h k = absurd (false≢true h)
 
+-- how an order by two parts comes about
+pub then_both : (b c d : Bool) → b ≡ true → (c ≡ true → d ≡ true) → cond b (cond c d true) false ≡ true
+then_both true true d h k = k refl
+then_both true false d h k = refl
+then_both false c d h k = absurd (false≢true h)
+
+-- and how it comes about that it fails
+then_fails : (b c d e : Bool) → (b ≡ false → c ≡ true) → (d ≡ false → e ≡ true) → cond b (cond c d true) false ≡ false → cond c (cond b e true) false ≡ true
+then_fails true true d e f g h = g h
+then_fails true false d e f g h = absurd (false≢true (sym h))
+then_fails false true d e f g h = refl
+then_fails false false d e f g h = absurd (false≢true (f refl))
+
+-- a test that cannot fail passes
+passes : (b : Bool) → (b ≡ false → ⊥) → b ≡ true
+passes true f = refl
+passes false f = absurd (f refl)
+
 pub nat_le_lawful : Lawful nat_le
-nat_le_lawful = record { total = λ x y h. grind (arith, nat_tests); trans = λ x y z h k. grind (arith, nat_tests) }
+nat_le_lawful = record {
+  total = λ x y h. le-leb y x (let l = leb-false x y h in omega arith);
+  trans = λ x y z h k. le-leb x z (let l = leb-true x y h in let m = leb-true y z k in omega arith);
+}
 
 pub int_le_lawful : Lawful int_le
-int_le_lawful = record { total = λ x y h. grind (arith, ints); trans = λ x y z h k. grind (arith, ints) }
+int_le_lawful = record {
+  total = λ x y h. passes (int_le y x) (λ e. omega (arith, ints));
+  trans = λ x y z h k. passes (int_le x z) (λ e. omega (arith, ints));
+}
 
 pub by_lawful : {X K : Type 0} (part : X → K) (le : K → K → Bool) → Lawful le → Lawful (by part le)
 by_lawful part le o = record {
@@ -31,22 +54,12 @@ by_lawful part le o = record {
 
 pub then_lawful : {X : Type 0} (p q : X → X → Bool) → Lawful p → Lawful q → Lawful (p then q)
 then_lawful p q o u = record {
-  total = λ x y h.
-      let a = o.total x y in
-      let b = u.total x y in
-      let c = cases_Bool (p x y) in
-      let d = cases_Bool (p y x) in
-      let e = cases_Bool (q x y) in
-      grind arith;
+  total = λ x y. then_fails (p x y) (p y x) (q x y) (q y x) (o.total x y) (u.total x y);
   trans = λ x y z h k.
-      let a = o.trans x y z in
-      let b = o.trans y z x in
-      let c = o.trans z x y in
-      let d = u.trans x y z in
-      let e = cases_Bool (p x y) in
-      let f = cases_Bool (p y z) in
-      let i = cases_Bool (p z x) in
-      grind arith;
+      let a = then_first (p x y) (p y x) (q x y) h in
+      let b = then_first (p y z) (p z y) (q y z) k in
+      then_both (p x z) (p z x) (q x z) (o.trans x y z a b)
+      (λ c. u.trans x y z (then_second (p x y) (p y x) (q x y) h (o.trans y z x b c)) (then_second (p y z) (p z y) (q y z) k (o.trans z x y c a)));
 }
 
 pub flight_lawful : Lawful flight_upto

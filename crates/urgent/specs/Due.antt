@@ -1,24 +1,18 @@
 -- The order of due cells: by port, then due slot, then number.
-use Rattle.std.specs.Prelude.{◌≡◌, ℕ, ◌≤◌, Bool, true, false, cond, ◌⊎◌, ℤ, ◌<ℤ◌, int_le, nat_le, refl}
+use Rattle.std.specs.Prelude.{◌≡◌, ℕ, ◌≤◌, true, false, ◌⊎◌, ℤ, ◌<ℤ◌, int_le, nat_le}
 use Rattle.std.proofs.Common.{sym, inl, inr, arith}
 use Rattle.std.proofs.lemmas.Int.{ints}
-use Rattle.std.proofs.lemmas.Bool.{leb-true, le-leb, cases_Bool, false≢true}
+use Rattle.std.proofs.lemmas.Bool.{leb-true, le-leb, cases_Bool}
 use Rattle.table.specs.Kinds.{by, ◌then◌, due_upto}
 use Rattle.table.specs.declared.due.DueCell.{DueCell}
-use Rattle.table.specs.Lexical.{then_first, then_second}
+use Rattle.table.specs.Lexical.{then_first, then_second, then_both}
 use Rattle.urgent.specs.Slack.{mark, earliest}
 
--- how an order by two parts comes about
-then_both : (b c d : Bool) → b ≡ true → (c ≡ true → d ≡ true) → cond b (cond c d true) false ≡ true
-then_both true true d h k = k refl
-then_both true false d h k = refl
-then_both false c d h k = absurd (false≢true h)
-
 int_le_same : (a b : ℤ) → int_le a b ≡ true → int_le b a ≡ true → a ≡ b
-int_le_same a b h k = grind (arith, ints)
+int_le_same a b h k = omega (arith, ints)
 
 int_le_less : (a b : ℤ) → int_le a b ≡ true → int_le b a ≡ false → a <ℤ b
-int_le_less a b h k = grind (arith, ints)
+int_le_less a b h k = omega (arith, ints)
 
 -- not after is not past the port
 pub due_port : (x y : DueCell) → due_upto x y ≡ true → x.port ≤ y.port
