@@ -28,6 +28,11 @@ held_slack z = cond (int_le z (pos 2147483647)) (cond (int_le (negsuc 2147483647
 abbrev pub outcome_of : Recording → List HopRecord → ℕ → CellOutcome
 outcome_of r log c = record { entry = (slice_index_or (cells_of r.plan) c no_cell).entry; exit = exit_slot r log c; slack = slack_left r log c }
 
+-- an unknown cell; a hop log shorter than the hops
+abbrev pub fared_test : Recording → List HopRecord → ℕ → Option Refusal
+fared_test r log c =
+    or_else (when (nat_le (length (cells_of r.plan)) c) UnknownItem) (when (nat_lt (length log) (hops_in (cells_of r.plan))) NoPlace)
+
 -- before every cell is gone; an unknown cell; a hop log shorter than the hops
 abbrev pub outcome_test : Recording → List HopRecord → ℕ → Option Refusal
 outcome_test r log c =

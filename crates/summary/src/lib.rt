@@ -1,10 +1,11 @@
 // What came of a recording that has ended, as text for a person.
 #![tactic(auto)]
 
-ghost use Rattle.std.specs.Prelude.{◌≡◌, ◌++◌, length, vec_items, string_bytes, IfOk, OnOk};
+ghost use Rattle.std.specs.Prelude.{◌≡◌, ◌++◌, length, string_bytes, IfOk, OnOk};
 ghost use Rattle.plan.specs.Plans.{cells_of};
 ghost use Rattle.summary.specs.Summaries.{cell_line, cell_lines, ports_part, ports_line, contested_ports, Answers};
 
+use arrayvec::ArrayVec;
 use outcome::{CellOutcome, Ended};
 use refusal::Refusal;
 use rules::HopRecord;
@@ -29,9 +30,10 @@ fn write_cells(text: &mut String, ended: &Ended) -> Result<(), AllocError>
     Ok(())
 }
 
-// The numbers of the contested ports, in ascending order.
-fn contested_ports(heap: Global, recording: &Recording) -> Result<Vec<usize>, AllocError>
-    ensures { IfOk result (λ ports. vec_items ports ≡ contested_ports recording.now) }
+// The numbers of the contested ports, in ascending order. They lie in the value itself, so that a summary takes memory for
+// its text alone.
+fn contested_ports(heap: Global, recording: &Recording) -> Result<ArrayVec<usize, 32>, AllocError>
+    ensures { IfOk result (λ ports. ports.items ≡ contested_ports recording.now) }
 {
     (0..recording.plan().ports())
         .filter(|port| recording.contested(*port).unwrap())
@@ -42,13 +44,11 @@ fn contested_ports(heap: Global, recording: &Recording) -> Result<Vec<usize>, Al
 fn write_ports(text: &mut String, ports: &[usize]) -> Result<(), AllocError>
     ensures { OnOk result (string_bytes text.new ≡ string_bytes text.old ++ ports_part ports.now) }
 {
-    if ports.is_empty() {
-        return write!(text, " none");
-    }
     for port in ports {
         write!(text, " {port}")?;
     }
-    Ok(())
+    let end = if ports.is_empty() { " none" } else { "" };
+    write!(text, "{end}")
 }
 
 // Writes the line of the contested ports.

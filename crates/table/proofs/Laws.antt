@@ -1,11 +1,32 @@
 -- Laws of what a table holds and of put_in, first_from and taken_from.
-use Rattle.std.proofs.Common.{◌≡◌, ℕ, zero, suc, ◌+◌, ◌<◌, Bool, true, false, cond, not, ◌⊎◌, List, [], ◌∷◌, ◌++◌, length, Some, None, filter, Option, sym, refl, ap, ◌∙◌, subst, inl, inr, arith}
+use Rattle.std.proofs.Common.{◌≡◌, ℕ, zero, suc, ◌+◌, ◌<◌, ◌≤◌, Bool, true, false, cond, not, ◌⊎◌, List, [], ◌∷◌, ◌++◌, length, take, Some, None, filter, Option, sym, refl, ap, ◌∙◌, subst, inl, inr, arith, length-take}
 use Rattle.std.specs.List.{ContainsAt, HoldsAt, AllByRecursion}
 use Rattle.std.specs.List.Sorted.{IsPermutation}
-use Rattle.std.proofs.ByRecursion.{All-weaker, has_shuffled, all_shuffled}
+use Rattle.std.proofs.ByRecursion.{All-weaker, all-has, has_shuffled, all_shuffled}
+use Rattle.std.proofs.lemmas.List.{take_all}
 use Rattle.std.proofs.lemmas.List.Sorted.{IsPermutation-refl, IsPermutation-sym, IsPermutation-trans, IsPermutation-swap, IsPermutation-cons, length_permutation}
-use Rattle.std.proofs.lemmas.Bool.{both_ways, cases_Bool, cond-true, cond-false}
+use Rattle.std.proofs.lemmas.Bool.{both_ways, cases_Bool, cases_lt, cond-true, cond-false}
+use Rattle.table.specs.Elements.{elements}
 use Rattle.table.specs.Order.{Lawful, Sorted, put_in, behind_equals, first_from, taken_from, LeastFrom}
+use Rattle.table.specs.declared.table.Table.{Table}
+
+-- as many at the front as the first n are, are the first n
+pub take_short : {X : Type 0} (n len : ℕ) (xs : List X) → len ≡ length (take n xs) → take len xs ≡ take n xs
+take_short n len xs all =
+    let k = length-take n xs in
+    elim (cases_lt n (length xs)) [
+      | inl h ↦ ap (λ m. take m xs) (omega arith)
+      | inr h ↦ take_all len xs (omega arith) ∙ sym (take_all n xs h)
+    ]
+
+module _ {X : Type 0} (t : Table X) where
+  -- no table has more elements than places
+  pub elements_few : length (elements t) ≤ length t.places.now
+  elements_few = omega (arith, length-take t.len t.places.now)
+
+  -- a table that goes on with as many places holds the same elements
+  pub elements_resumed : take (length (elements t)) t.places.now ≡ elements t
+  elements_resumed = take_short t.len (length (elements t)) t.places.now refl
 
 -- an element of a list with one more at its front
 module _ {X : Type 0} (x : X) (xs : List X) (y : X) where
@@ -44,12 +65,32 @@ module _ {X : Type 0} (le : X → X → Bool) (e : X) where
   pub has_put_in_old : (xs : List X) (x : X) → ContainsAt xs x → ContainsAt (put_in le e xs) x
   has_put_in_old xs x h = has_shuffled (e ∷ xs) (put_in le e xs) x (shuffled_put_in xs) (has_later e xs x h)
 
+  pub has_put_in_cases : (xs : List X) (x : X) → ContainsAt (put_in le e xs) x → (x ≡ e) ⊎ ContainsAt xs x
+  has_put_in_cases xs x h = has_cases e xs x (has_shuffled (put_in le e xs) (e ∷ xs) x (IsPermutation-sym (e ∷ xs) (put_in le e xs) (shuffled_put_in xs)) h)
+
   pub all_put_in : (P : X → Type 0) (xs : List X) → P e → AllByRecursion P xs → AllByRecursion P (put_in le e xs)
   all_put_in P xs here all = all_shuffled P (e ∷ xs) (put_in le e xs) (shuffled_put_in xs) (here, all)
 
+  -- an element that is put in before a mark is not told from that mark on
+  pub first_from_put_in_before : (m : X) (xs : List X) → le m e ≡ false → first_from le m (put_in le e xs) ≡ first_from le m xs
+  first_from_put_in_before m [] h = cond-false (le m e) (Some e) None h
+  first_from_put_in_before m (x ∷ xs) h =
+      elim (le x e) as (λ b. first_from le m (cond b (x ∷ put_in le e xs) (e ∷ x ∷ xs)) ≡ first_from le m (x ∷ xs)) [
+        | true ↦ ap (λ o. cond (le m x) (Some x) o) (first_from_put_in_before m xs h)
+        | false ↦ cond-false (le m e) (Some e) (first_from le m (x ∷ xs)) h
+      ]
+
 -- with e as the mark
 module _ {X : Type 0} (le : X → X → Bool) (e : X) where
-  -- where none is told, none is taken
+  -- where none is told, all are before the mark, and none is taken
+  pub first_from_none : (xs : List X) → first_from le e xs ≡ None → AllByRecursion (λ y. le e y ≡ false) xs
+  first_from_none [] h = tt
+  first_from_none (x ∷ xs) h =
+      (elim (le e x) as (λ b. le e x ≡ b → cond b (Some x) (first_from le e xs) ≡ None → AllByRecursion (λ y. le e y ≡ false) (x ∷ xs)) [
+        | true ↦ λ is h. let z : ◌≡◌ {A = ℕ} 0 1 = cc in absurd (omega arith)
+        | false ↦ λ is h. (is, first_from_none xs h)
+      ]) refl h
+
   pub taken_from_none : (xs : List X) → first_from le e xs ≡ None → taken_from le e xs ≡ xs
   taken_from_none [] h = refl
   taken_from_none (x ∷ xs) h =
@@ -73,6 +114,21 @@ module _ {X : Type 0} (le : X → X → Bool) (e : X) where
   pub has_first_from : (xs : List X) (y : X) → first_from le e xs ≡ Some y → ContainsAt xs y
   has_first_from xs y h = has_shuffled (y ∷ taken_from le e xs) xs y (shuffled_taken_from xs y h) (has_first y (taken_from le e xs))
 
+  pub first_from_passes : (xs : List X) (y : X) → first_from le e xs ≡ Some y → le e y ≡ true
+  first_from_passes [] y h = let z : ◌≡◌ {A = ℕ} 0 1 = cc in absurd (omega arith)
+  first_from_passes (x ∷ xs) y h =
+      (elim (le e x) as (λ b. le e x ≡ b → cond b (Some x) (first_from le e xs) ≡ Some y → le e y ≡ true) [
+        | true ↦ λ is h. let same : x ≡ y = cc in subst (λ z. le e z ≡ true) same is
+        | false ↦ λ is h. first_from_passes xs y h
+      ]) refl h
+
+  pub has_taken_from : (xs : List X) (x : X) → ContainsAt (taken_from le e xs) x → ContainsAt xs x
+  has_taken_from xs x k =
+      (elim (first_from le e xs) as (λ o. first_from le e xs ≡ o → ContainsAt xs x) [
+        | None ↦ λ h. subst (λ l. ContainsAt l x) (taken_from_none xs h) k
+        | Some y ↦ λ h. has_shuffled (y ∷ taken_from le e xs) xs x (shuffled_taken_from xs y h) (has_later y (taken_from le e xs) x k)
+      ]) refl
+
   pub has_taken_from_cases : (xs : List X) (y x : X) → first_from le e xs ≡ Some y → ContainsAt xs x → (x ≡ y) ⊎ ContainsAt (taken_from le e xs) x
   has_taken_from_cases xs y x h k =
       has_cases y (taken_from le e xs) x (has_shuffled xs (y ∷ taken_from le e xs) x (IsPermutation-sym (y ∷ taken_from le e xs) xs (shuffled_taken_from xs y h)) k)
@@ -81,6 +137,24 @@ module _ {X : Type 0} (le : X → X → Bool) (e : X) where
   all_taken_from P [] all = tt
   all_taken_from P (x ∷ xs) all =
       elim (le e x) as (λ b. AllByRecursion P (cond b xs (x ∷ taken_from le e xs))) [ true ↦ all.1 | false ↦ (all.0, all_taken_from P xs all.1) ]
+
+-- e is put in where all are before the mark m: then e is told and taken
+module _ {X : Type 0} (le : X → X → Bool) (e m : X) (here : le m e ≡ true) where
+  pub first_from_put_in_none : (xs : List X) → AllByRecursion (λ y. le m y ≡ false) xs → first_from le m (put_in le e xs) ≡ Some e
+  first_from_put_in_none [] all = cond-true (le m e) (Some e) None here
+  first_from_put_in_none (x ∷ xs) all =
+      elim (le x e) as (λ b. first_from le m (cond b (x ∷ put_in le e xs) (e ∷ x ∷ xs)) ≡ Some e) [
+        | true ↦ cond-false (le m x) (Some x) (first_from le m (put_in le e xs)) all.0 ∙ first_from_put_in_none xs all.1
+        | false ↦ cond-true (le m e) (Some e) (first_from le m (x ∷ xs)) here
+      ]
+
+  pub taken_from_put_in_none : (xs : List X) → AllByRecursion (λ y. le m y ≡ false) xs → taken_from le m (put_in le e xs) ≡ xs
+  taken_from_put_in_none [] all = cond-true (le m e) [] (e ∷ []) here
+  taken_from_put_in_none (x ∷ xs) all =
+      elim (le x e) as (λ b. taken_from le m (cond b (x ∷ put_in le e xs) (e ∷ x ∷ xs)) ≡ x ∷ xs) [
+        | true ↦ cond-false (le m x) (put_in le e xs) (x ∷ taken_from le m (put_in le e xs)) all.0 ∙ ap (λ l. x ∷ l) (taken_from_put_in_none xs all.1)
+        | false ↦ cond-true (le m e) (x ∷ xs) (e ∷ taken_from le m (x ∷ xs)) here
+      ]
 
 -- filters that keep nothing and all
 none_kept : {X : Type 0} (p : X → Bool) (xs : List X) → AllByRecursion (λ y. p y ≡ false) xs → filter p xs ≡ []
@@ -139,3 +213,30 @@ module _ {X : Type 0} (le : X → X → Bool) (o : Lawful le) where
         past : (a : Option X) → le e x ≡ false → LeastFrom le e xs a → LeastFrom le e (x ∷ xs) a
         past None h k = (h, k)
         past (Some z) h k = (has_later x xs z k.0, k.1, ((λ l. absurd (both_ways (le e x) h l)), k.2))
+
+    -- e is put in where x is told from the mark m on: then x stays the one told if it is not after e, and else e is
+    module _ (m x : X) (here : le m e ≡ true) where
+      later : (y : X) (xs : List X) → AllByRecursion (λ z. le y z ≡ true) xs → first_from le m xs ≡ Some x → le y e ≡ false → le x e ≡ false
+      later y xs all told h = after e y x h (all-has (λ z. le y z ≡ true) xs x all (has_first_from le m xs x told))
+
+      pub first_from_put_in_some : (xs : List X) → Sorted le xs → first_from le m xs ≡ Some x → first_from le m (put_in le e xs) ≡ Some (cond (le x e) x e)
+      first_from_put_in_some [] s told = let z : ◌≡◌ {A = ℕ} 0 1 = cc in absurd (omega arith)
+      first_from_put_in_some (y ∷ xs) s told =
+          (elim (le m y) as (λ b. le m y ≡ b → cond b (Some y) (first_from le m xs) ≡ Some x → first_from le m (put_in le e (y ∷ xs)) ≡ Some (cond (le x e) x e)) [
+            | true ↦ λ h told. let same : y ≡ x = cc in subst (λ z. first_from le m (put_in le e (y ∷ xs)) ≡ Some (cond (le z e) z e)) same (at h)
+            | false ↦ λ h told. past h told (first_from_put_in_some xs s.1 told)
+          ]) refl told
+        where
+          at : le m y ≡ true → first_from le m (put_in le e (y ∷ xs)) ≡ Some (cond (le y e) y e)
+          at h =
+              elim (le y e) as (λ b. first_from le m (cond b (y ∷ put_in le e xs) (e ∷ y ∷ xs)) ≡ Some (cond b y e)) [
+                | true ↦ cond-true (le m y) (Some y) (first_from le m (put_in le e xs)) h
+                | false ↦ cond-true (le m e) (Some e) (first_from le m (y ∷ xs)) here
+              ]
+
+          past : le m y ≡ false → first_from le m xs ≡ Some x → first_from le m (put_in le e xs) ≡ Some (cond (le x e) x e) → first_from le m (put_in le e (y ∷ xs)) ≡ Some (cond (le x e) x e)
+          past h told more =
+              (elim (le y e) as (λ b. le y e ≡ b → first_from le m (cond b (y ∷ put_in le e xs) (e ∷ y ∷ xs)) ≡ Some (cond (le x e) x e)) [
+                | true ↦ λ k. cond-false (le m y) (Some y) (first_from le m (put_in le e xs)) h ∙ more
+                | false ↦ λ k. cond-true (le m e) (Some e) (first_from le m (y ∷ xs)) here ∙ ap Some (sym (cond-false (le x e) x e (later y xs s.0 told k)))
+              ]) refl

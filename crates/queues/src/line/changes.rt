@@ -36,7 +36,8 @@ impl Line {
         ensures cell { result ≡ (slice_index_or (queue self.old) at no_entry).cell }
         ensures left { queue self.new ≡ without (queue self.old) result }
     {
-        let e = self.entries.remove(at);
+        let e = self.entries[at];
+        self.entries.remove(at);
         self.counts[usize::from(e.port)] -= 1;
         usize::from(e.cell)
     }

@@ -1,7 +1,8 @@
 use Rattle.std.proofs.Common.{◌≡◌, ℕ, zero, suc, ◌+◌, ◌++◌, Bool, true, false, cond, List, [], ◌∷◌, length, get_or, Ok, Some, None, Option, Result, refl, ap, ◌∙◌, append-nil, arith, rules}
 use Rattle.std.specs.List.{filter, range_with_len}
 use Rattle.std.proofs.lemmas.List.Elements.{filter-append}
-use Rattle.std.proofs.lemmas.Iterator.{YieldsList-from_range, items_from_collect}
+use Rattle.std.proofs.lemmas.Iterator.{YieldsList-from_range}
+use Rattle.std.proofs.lemmas.Iterator.Adapters.{fact_from_collect}
 use Rattle.std.proofs.lemmas.Iterator.Consumers.{YieldsList-from_filter}
 use Rattle.std.proofs.lemmas.Result.{IfOk-weaker}
 use Rattle.refusal.specs.declared.Refusal.{Refusal}
@@ -40,6 +41,6 @@ returns c =
     let all : ℕ = c.ports.result in
     let is : all ≡ length (delays_of r.plan) = c.ports.ensures ∙ ap (λ p. length (delays_of p)) c.plan.ensures in
     IfOk-weaker c.collect.result _ _ (λ v e. e ∙ flagged_is r.contested all ∙ ap (flagged r.contested) is)
-    (items_from_collect _ c.collect.ensures.ran
+    (fact_from_collect (λ xs v. v.items ≡ xs) _ c.collect.ensures.ran
     (YieldsList-from_filter _ (set r.contested) (YieldsList-from_range 0 all all c.filter.ensures.source (omega arith)) c.filter.ensures.closure
     (λ x b q k. search (rules, told_is))))

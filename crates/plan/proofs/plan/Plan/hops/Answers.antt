@@ -13,4 +13,5 @@ sum-requires-clause-fits c =
 pub returns : goal.returns
 returns c =
     let found : c.sum.result ≡ sum_by (λ x. length (planned x).route) (vec_items c.args.self.now.cells) = search (rules, chains) in
-    found ∙ hops_sum (vec_items c.args.self.now.cells)
+    let all = found ∙ hops_sum (vec_items c.args.self.now.cells) in
+    omega (arith, all)
